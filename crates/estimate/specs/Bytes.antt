@@ -1,0 +1,95 @@
+-- The 26 bytes of an estimate (document 01, "The join sheet"): source u8, flags u8 (1 lower present, 2 upper present), value, lower, upper; an absent bound is zero bytes. Definitions only.
+use Prim.Native.Nat.{ℕ, _+_, _*_, _/_, _%_}
+use mathlib.Core.Path.{_≡_}
+use mathlib.Core.Logic.{_⊎_}
+use mathlib.Core.Bool.{Bool, true, false, cond}
+use mathlib.Core.List.{List, [], _∷_, _++_}
+use lib.Dec.{T, leb, eqb}
+use lib.IntN.{pos, negsuc}
+use lib.Ieee.{Float, fin, binary64, toBits, fits}
+use Rattle.float.specs.Integers.{bit}
+use Rattle.float.specs.Option.{some, none}
+use Rattle.float.specs.Ranges.{zeroOrBetween}
+use Rattle.float.specs.declared.option.OptionF64.{OptionF64}
+use Rattle.le.specs.Fields.{byteAt, u64At, u64Bytes}
+use Rattle.le.specs.Floats.{f64At, f64Bytes}
+use Rattle.rules.specs.Rules.{ask, orElse}
+use Rattle.estimate.specs.declared.Estimate.{Estimate}
+use Rattle.estimate.specs.declared.EstimateSource.{EstimateSource}
+use Rattle.estimate.specs.declared.EstimateSource.the-variants.{Exact, Catalog, Sketch, Derived, Default}
+
+-- ---- fields
+
+-- the order of `EstimateSource`
+abbrev pub sourceNumber : EstimateSource → ℕ
+sourceNumber Exact = 0
+sourceNumber Catalog = 1
+sourceNumber Sketch = 2
+sourceNumber Derived = 3
+sourceNumber Default = 4
+
+-- a number that stands for none gives Default
+abbrev pub sourceOf : ℕ → EstimateSource
+sourceOf n = cond (eqb n 0) Exact (cond (eqb n 1) Catalog (cond (eqb n 2) Sketch (cond (eqb n 3) Derived Default)))
+
+abbrev pub lowerFlag : ℕ → Bool
+lowerFlag flags = eqb (flags % 2) 1
+
+abbrev pub upperFlag : ℕ → Bool
+upperFlag flags = eqb (flags / 2 % 2) 1
+
+abbrev pub flagsNumber : Estimate → ℕ
+flagsNumber e = bit (e .lower .present) + 2 * bit (e .upper .present)
+
+-- ---- read
+
+abbrev pub optionAt : Bool → List ℕ → ℕ → OptionF64
+optionAt present s at = cond present (some (f64At s at)) none
+
+unfoldable pub estimateAt : List ℕ → ℕ → Estimate
+estimateAt s at = record {
+  value = f64At s (at + 2);
+  lower = optionAt (lowerFlag (byteAt s (at + 1))) s (at + 10);
+  upper = optionAt (upperFlag (byteAt s (at + 1))) s (at + 18);
+  source = sourceOf (byteAt s at);
+}
+
+-- ---- the rules, in byte order
+
+-- +0, or from 2 ^ -64 to 2 ^ 64
+abbrev pub figureLawful : Float → Bool
+figureLawful x = zeroOrBetween (fin false 1 (negsuc 63)) (fin false 1 (pos 64)) x
+
+abbrev pub boundRefusal : Bool → List ℕ → ℕ → ℕ
+boundRefusal present s at = cond present (ask (figureLawful (f64At s at)) 4) (ask (eqb (u64At s at) 0) 6)
+
+unfoldable pub estimateRefusal : List ℕ → ℕ → ℕ
+estimateRefusal s at =
+    orElse (ask (leb (byteAt s at) 4) 6)
+    (orElse (ask (leb (byteAt s (at + 1)) 3) 6)
+    (orElse (ask (figureLawful (f64At s (at + 2))) 4)
+    (orElse (boundRefusal (lowerFlag (byteAt s (at + 1))) s (at + 10))
+    (boundRefusal (upperFlag (byteAt s (at + 1))) s (at + 18)))))
+
+-- ---- written
+
+abbrev pub optionBits : OptionF64 → ℕ
+optionBits x = cond (x .present) (toBits binary64 (x .number)) 0
+
+unfoldable pub estimateBytes : Estimate → List ℕ
+estimateBytes e =
+    (sourceNumber (e .source) ∷ []) ++ ((flagsNumber e ∷ []) ++ (f64Bytes (e .value) ++ (u64Bytes (optionBits (e .lower)) ++ u64Bytes (optionBits (e .upper)))))
+
+-- ---- what a sheet may hold
+
+pub record LawfulFigure (x : Float) : Type 0 where
+  pub held : T (fits binary64 x)
+  pub lawful : T (figureLawful x)
+
+abbrev pub LawfulBound : OptionF64 → Type 0
+LawfulBound x = ((x .present ≡ true) × LawfulFigure (x .number)) ⊎ (x ≡ none)
+
+pub record LawfulEstimate (e : Estimate) : Type 0 where
+  pub value : LawfulFigure (e .value)
+  pub lower : LawfulBound (e .lower)
+  pub upper : LawfulBound (e .upper)

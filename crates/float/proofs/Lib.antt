@@ -1,0 +1,10 @@
+pub mod SignLaws
+pub mod BitLaws
+pub mod OrderLaws
+pub mod RoundLaws
+pub mod NonNegLaws
+pub mod IntegerLaws
+pub mod TableLaws
+pub mod TenLaws
+pub mod UnitLaws
+pub mod RangeLaws

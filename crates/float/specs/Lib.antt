@@ -1,0 +1,5 @@
+pub mod Order
+pub mod Ranges
+pub mod Integers
+pub mod Tens
+pub mod Option

@@ -1,0 +1,23 @@
+-- `root_digits` meets its contract, which is that of `corrected` where its test passed, and that of `digit_by_digit` elsewhere. Assumes nothing.
+use borrow.Author.Needs.{needs}
+use Rattle.root.proofs.digits.root_digits.Statement.{statement}
+use Rattle.root.proofs.digits.root_digits.Tie as tie
+
+guess-requires : tie.Need-guess-requires
+guess-requires c κs = search needs
+
+corrected-requires : tie.Need-corrected-requires
+corrected-requires c κs = search needs
+
+returns : tie.Need-returns
+returns c = c .before .corrected .ensures (c .if1 .taken)
+
+digit-by-digit-requires : tie.Need-digit-by-digit-requires
+digit-by-digit-requires c κs = search needs
+
+returns-2 : tie.Need-returns-2
+returns-2 c = search needs
+
+pub root-digits-spec : {M : Type 1} → statement M
+root-digits-spec =
+    tie.close (tie.spec guess-requires corrected-requires returns digit-by-digit-requires returns-2)

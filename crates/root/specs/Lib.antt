@@ -1,0 +1,5 @@
+pub mod Isqrt
+pub mod Root
+pub mod Digits
+pub mod NearestRoot
+pub mod Cases
