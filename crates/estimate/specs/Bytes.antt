@@ -1,4 +1,4 @@
--- The 26 bytes of an estimate (document 01, "The join sheet"): source u8, flags u8 (1 lower present, 2 upper present), value, lower, upper; an absent bound is zero bytes. Definitions only.
+-- The 26 bytes of an estimate (document 01, "The join sheet"): a byte for the source, a byte of flags, then three floats, of which the bounds are all zeros where their flag is clear. Definitions only.
 use Prim.Native.Nat.{ℕ, _+_, _*_, _/_, _%_}
 use mathlib.Core.Path.{_≡_}
 use mathlib.Core.Logic.{_⊎_}

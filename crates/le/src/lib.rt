@@ -1,5 +1,5 @@
-// Little-endian fields of a slice of bytes. A byte past the end reads as 0, so reading asks nothing
-// of its caller.
+// Little-endian fields of a slice. Behind its end every byte counts as 0: a reader asks nothing of
+// its caller.
 pub mod floats;
 pub mod integers;
 pub mod reads;

@@ -35,7 +35,7 @@ unfoldable pub finitePower : Float → Float → Float
 unfolding wholePower rootPower fractionDigits size toUnsigned
 finitePower x f = let n = toUnsigned 64 f in rootPower 30 x (wholePower (size n - 1) x n) (fractionDigits f)
 
--- If x is 1, it is 1; if f is 2 ^ 63 or more, 0. Document 01 asks for no f below 1, nor for a NaN: a NaN answers both.
+-- The base 1 keeps its value under every exponent, and an exponent from 2 ^ 63 on gives 0. Document 01 asks for no f below 1, nor for a NaN: a NaN answers both.
 unfoldable pub power : Float → Float → Float
 unfolding finitePower eq le
 power x f = cond (eq x f64One) f64One (cond (le (fin false 1 (pos 63)) f) f64Zero (cond (le f64One f) (finitePower x f) nan))

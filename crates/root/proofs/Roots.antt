@@ -4,6 +4,7 @@ use mathlib.Core.Bool.{Bool, true, false, not, cond}
 use Prim.Native.Nat.{ℕ, zero, suc, _+_, _-_, _*_, _/_, _%_, _^_, _≤_, _<_, zero-le, compare, Ordering, Ordering·lt, Ordering·eq, Ordering·gt}
 use native.Mathlib.Nat.{le-trans, le-of-eq, lt-of-lt-of-le, lt-of-le-of-lt, lt-of-not-le, not-le-of-lt, le-antisymm, le-of-suc-le-suc, zero-lt-suc, mul-comm, mul-assoc, mul-mul-mul-comm, mul-le-mul-right, mul-lt-mul-of-pos-right, mul-pos, pow-suc, pow-le-pow-left, div-lt-iff-lt-mul, le-div-iff-mul-le, div-div-eq-div-mul}
 use native.Mathlib.Omega.{arith}
+use native.Mathlib.Numerals.{add-one}
 use lib.Arith.{lt-of-le-ne}
 use lib.Dec.{T, leb, ltb, ltb→lt, eqb, isLe, isEq, leb→le, nleb→lt, eqb→eq, eqb-refl, lit≤}
 use lib.Pow.{pow-add, pow-pos, pow-mono}
@@ -12,7 +13,8 @@ use lib.Ieee.Digits.{size-lt, size-le}
 use lib.Ieee.Fits.{and-l, and-r}
 use Rattle.root.specs.Isqrt.{atLeast, digitRoot, newton, isRoot, checked, tried, lower, isqrt}
 use Rattle.root.specs.Root.{middle, roundRoot}
-use Rattle.root.specs.Digits.{roundedBy, roundedHalf}
+use Rattle.root.specs.Digits.{RootDigits, allDigits, roundedBy, roundedHalf}
+use Rattle.root.specs.declared.digits.Digits.{Digits}
 use Rattle.root.proofs.Squares.{sq-lt, sq-suc, sq-double}
 
 -- ---- the whole part of a root
@@ -196,3 +198,19 @@ module _ (digits rest z n : ℕ) (small : rest ≤ 2 * digits) (lo : 2 ^ 53 ≤ 
       ∙ ap (λ (x : ℕ). units binary64 false (nearest (digits / 2) (compare x (middle (digits / 2) (suc z) * middle (digits / 2) (suc z)))) (suc z)) four
       ∙ ap (λ (x : ℕ). units binary64 false (nearest (digits / 2) (compare ((digits * digits + rest) * (4 * (2 ^ z * 2 ^ z))) x)) (suc z)) (squared (2 * (digits / 2) + 1))
       ∙ ap (λ (q : ℕ). units binary64 false q (suc z)) (half-rounded digits rest (4 * (2 ^ z * 2 ^ z)) small (mul-pos (zero-lt-suc 3) (mul-pos (pow-pos z) (pow-pos z))))
+
+-- digits and rest are fixed by what they promise
+abbrev digitsOf : ℕ → ℕ → Digits
+digitsOf d r = record { digits = d; rest = r }
+
+pub digits-fixed : (w d r : ℕ) → RootDigits w d r → digitsOf d r ≡ allDigits w
+unfolding allDigits
+digits-fixed w d r h =
+    let k : d * d + r ≡ w * 4 ^ 27 = h .whole in
+    let m : r ≤ 2 * d = h .small in
+    let s : (d + 1) * (d + 1) ≡ d * d + 2 * d + 1 = sq-suc d in
+    let u : w * 4 ^ 27 < (d + 1) * (d + 1) = omega arith in
+    let v : w * 4 ^ 27 < suc d * suc d = subst (λ (x : ℕ). w * 4 ^ 27 < x * x) (add-one d) u in
+    let e : d ≡ isqrt (w * 4 ^ 27) = whole-unique (w * 4 ^ 27) d (isqrt (w * 4 ^ 27)) (omega arith, v) (isqrt-whole (w * 4 ^ 27)) in
+    let f : r ≡ w * 4 ^ 27 - d * d = omega arith in
+    ap (digitsOf d) f ∙ ap (λ (x : ℕ). digitsOf x (w * 4 ^ 27 - x * x)) e

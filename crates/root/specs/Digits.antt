@@ -1,12 +1,19 @@
 -- What the functions below `root` ensure. Definitions only.
-use Prim.Native.Nat.{ℕ, zero, suc, _+_, _*_, _/_, _%_, _^_, _≤_, _<_}
+use Prim.Native.Nat.{ℕ, zero, suc, _+_, _-_, _*_, _/_, _%_, _^_, _≤_, _<_}
 use mathlib.Core.Path.{_≡_}
+use Rattle.root.specs.Isqrt.{isqrt}
+use Rattle.root.specs.declared.digits.Digits.{Digits}
 
 -- all digits of the root of w * 4 ^ 27, and the remainder
 pub record RootDigits (w digits rest : ℕ) : Type 0 where
   pub whole : digits * digits + rest ≡ w * 4 ^ 27
   pub small : rest ≤ 2 * digits
   pub bound : digits < 2 ^ 54
+
+-- the whole part of the root of w * 4 ^ 27, and what its square leaves: the one pair that `RootDigits` holds of
+unfoldable pub allDigits : ℕ → Digits
+unfolding isqrt
+allDigits w = record { digits = isqrt (w * 4 ^ 27); rest = w * 4 ^ 27 - isqrt (w * 4 ^ 27) * isqrt (w * 4 ^ 27) }
 
 -- moved s to the left d has 53 digits
 pub record Shift (d s : ℕ) : Type 0 where

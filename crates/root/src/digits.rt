@@ -2,7 +2,7 @@
 ghost use mathlib.Core.Path.{_≡_};
 ghost use mathlib.Core.Bool.{true};
 ghost use Prim.Native.Nat.{_+_, _*_, _<_, _≤_, _^_};
-ghost use Rattle.root.specs.Digits.{RootDigits};
+ghost use Rattle.root.specs.Digits.{RootDigits, allDigits};
 
 // digits * digits + rest is the number, and rest is at most 2 * digits.
 pub struct Digits {
@@ -183,6 +183,7 @@ fn corrected(w: u64, g: u64) -> Attempt
 pub fn root_digits(w: u64) -> Digits
     requires { ⌜ w < 2 ^ 54 ⌝ }
     ensures { λ r. ⌜ RootDigits w (r .digits) (r .rest) ⌝ }
+    ensures { λ r. ⌜ r ≡ allDigits w ⌝ }
 {
     let t = corrected(w, guess(w));
     if t.good {

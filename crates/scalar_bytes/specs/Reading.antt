@@ -44,7 +44,7 @@ placeAllows place (Present x) = not (eqb (scalarType x .tag) 0 && isSketch place
 abbrev pub zerosAt : ℕ → List ℕ → ℕ → Bool
 zerosAt n s at = eqb (fieldAt n s at) 0
 
--- +0, or from 2 ^ -400 to 2 ^ 400 in size
+-- the magnitude is no less than 2 ^ -400 and no more than 2 ^ 400, or the float is +0
 abbrev pub float64Lawful : Float → Bool
 float64Lawful x =
     let low = fin false 1 (negsuc 399) in

@@ -83,7 +83,8 @@ fn zeros_17(s: &[u8], at: usize) -> bool
     both(byte_at(s, at) == 0, zeros_16(s, at + 1))
 }
 
-// +0, or from 2^-400 to 2^400 in size.
+// Whether a sheet may hold x: +0, or a number of either sign no nearer to zero than 2^-400 and no
+// farther from it than 2^400.
 fn float64_lawful(x: f64) -> bool
     ensures { λ r. ⌜ r ≡ float64Lawful x ⌝ }
 {

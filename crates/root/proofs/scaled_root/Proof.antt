@@ -40,7 +40,7 @@ assembled-requires c κs =
     let s = c .before .before .shift-of in
     let g = c .before .root-digits .result in
     let p = a .e - s .result in
-    subst (λ (m : ℕ). (2 ^ 52 ≤ m) × (m ≤ 2 ^ 53) × (p / 2 - 26 < 2000)) (sym (c .rounded-half .ensures)) (range (a .d) (s .result) p (g .digits) (g .rest) (s .ensures) (omega arith) (c .before .root-digits .ensures))
+    subst (λ (m : ℕ). (2 ^ 52 ≤ m) × (m ≤ 2 ^ 53) × (p / 2 - 26 < 2000)) (sym (c .rounded-half .ensures)) (range (a .d) (s .result) p (g .digits) (g .rest) (s .ensures) (omega arith) (c .before .root-digits .ensures .0))
 
 returns : tie.Need-returns
 returns c =
@@ -50,7 +50,7 @@ returns c =
     let p = a .e - s .result in
     c .assembled .ensures
     ∙ ap (λ (m : ℕ). units binary64 false m (p / 2 - 26)) (c .before .rounded-half .ensures)
-    ∙ scaled (a .d) (s .result) (a .e) p (g .digits) (g .rest) (s .ensures) (omega arith) (omega arith) (c .before .before .root-digits .ensures)
+    ∙ scaled (a .d) (s .result) (a .e) p (g .digits) (g .rest) (s .ensures) (omega arith) (omega arith) (c .before .before .root-digits .ensures .0)
 
 pub scaled-root-spec : {M : Type 1} → statement M
 scaled-root-spec = tie.close (tie.spec shift-of-requires shl-m sub-p add-root-digits mul-root-digits root-digits-requires rounded-half-requires sub-assembled assembled-requires returns)

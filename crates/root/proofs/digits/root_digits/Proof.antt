@@ -1,5 +1,6 @@
 -- `root_digits` meets its contract, which is that of `corrected` where its test passed, and that of `digit_by_digit` elsewhere. Assumes nothing.
 use borrow.Author.Needs.{needs}
+use Rattle.root.proofs.Roots.{digits-fixed}
 use Rattle.root.proofs.digits.root_digits.Statement.{statement}
 use Rattle.root.proofs.digits.root_digits.Tie as tie
 
@@ -10,13 +11,13 @@ corrected-requires : tie.Need-corrected-requires
 corrected-requires c κs = search needs
 
 returns : tie.Need-returns
-returns c = c .before .corrected .ensures (c .if1 .taken)
+returns c = let h = c .before .corrected .ensures (c .if1 .taken) in (h, digits-fixed _ _ _ h)
 
 digit-by-digit-requires : tie.Need-digit-by-digit-requires
 digit-by-digit-requires c κs = search needs
 
 returns-2 : tie.Need-returns-2
-returns-2 c = search needs
+returns-2 c = (c .digit-by-digit .ensures, digits-fixed _ _ _ (c .digit-by-digit .ensures))
 
 pub root-digits-spec : {M : Type 1} → statement M
 root-digits-spec =
