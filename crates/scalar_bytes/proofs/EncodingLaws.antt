@@ -310,7 +310,7 @@ accepted-allowed place s at e = accepted place s at e .allowed
 pub accepted-lawful : (place : ScalarPlace) (s : List ℕ) (at : ℕ) → Bytes s → scalarLawful place s at ≡ true → lawfulBound (boundAt s at) ≡ true
 accepted-lawful place s at k e = accepted place s at e .lawful k
 
--- ---- both ways: an accepted scalar is written as it stood, and a lawful one is accepted
+-- an accepted scalar is written as it stood
 pub written-back : (place : ScalarPlace) (s : List ℕ) (at : ℕ) → Bytes s → at + 19 ≤ length s → scalarLawful place s at ≡ true → boundBytes (boundAt s at) ≡ take 19 (drop at s)
 written-back place s at k h e =
     let b : Bound = boundAt s at in
