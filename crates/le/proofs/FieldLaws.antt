@@ -1,14 +1,14 @@
 -- Laws of little-endian fields, over the width n in bytes. Assumes nothing.
 use Prim.Native.Nat.{ℕ, zero, suc, _+_, _-_, _*_, _/_, _%_, _^_, _≤_, _<_}
 use mathlib.Core.Path.{_≡_, refl, sym, ap, _∙_, subst}
-use mathlib.Core.Bool.{Bool, _&&_}
+use mathlib.Core.Logic.{⊎-elim}
+use mathlib.Core.Bool.{Bool, true, false, _&&_}
 use mathlib.Core.List.{List, [], _∷_, _++_, append-assoc}
 use native.Mathlib.Omega.{arith}
-use native.Mathlib.Nat.{mul-le-mul-left, mul-le-mul-right, one-le-pow, not-suc-le-zero, pow-le-pow-right, pow-suc, pow-succ', mul-assoc, mul-comm, add-mul, add-zero, zero-add, add-suc, suc-add, div-div-eq-div-mul}
-use native.Mathlib.Numerals.{add-one}
-use lib.Dec.{eqb}
-use borrow.Author.Tests.{eq-eqb, ne-eqb}
-use lib.ListN.{length, take, drop, getD, length-append}
+use native.Mathlib.Nat.{mul-le-mul-left, mul-le-mul-right, one-le-pow, not-suc-le-zero, pow-le-pow-right, pow-suc, pow-succ', mul-assoc, mul-comm, add-mul, suc-mul, eq-or-lt-of-le, add-zero, zero-add, add-suc, suc-add}
+use lib.Dec.{eqb, ltb}
+use borrow.Author.Tests.{eq-eqb, ne-eqb, eqb-true, eqb-false, ltb-true, ltb-false}
+use lib.ListN.{length, take, drop, length-append}
 use lib.Seq.{getD-drop, drop-cons, drop-drop, drop-at, take-add}
 use lib.Pow.{pow-add}
 use Rattle.le.specs.Fields.{byteAt, fieldAt, fieldBytes}
@@ -106,6 +106,37 @@ zero-sum (suc a) b w h =
 pub zeros-split : (n m : ℕ) (s : List ℕ) (at : ℕ) → (eqb (fieldAt n s at) 0 && eqb (fieldAt m s (at + n)) 0) ≡ eqb (fieldAt (n + m) s at) 0
 zeros-split n m s at =
     zero-sum (fieldAt n s at) (fieldAt m s (at + n)) (256 ^ n) (one-le-pow n 256 (omega arith)) ∙ ap (λ (x : ℕ). eqb x 0) (sym (field-split n m s at))
+
+-- ---- equal fields
+
+-- two sums over w are not equal where the high part of one is less and its low part is below w
+apart : (a b c d w : ℕ) → a < w → c < d → a + c * w ≡ b + d * w → ⊥
+apart a b c d w h l e =
+    let m : suc c * w ≤ d * w = mul-le-mul-right w l in
+    let s : suc c * w ≡ c * w + w = suc-mul c w in
+    omega arith
+
+sum-same : (a b c d w : ℕ) → a < w → b < w → eqb (a + c * w) (b + d * w) ≡ (eqb a b && eqb c d)
+sum-same a b c d w h k = go (eqb a b) (eqb c d) refl refl
+  where
+    high : (t : Bool) → ltb c d ≡ t → (c ≡ d → ⊥) → a + c * w ≡ b + d * w → ⊥
+    high true l n e = apart a b c d w h (ltb-true c d l) e
+    high false l n e = let g : d < c = ⊎-elim (λ q. absurd (n (sym q))) (λ q. q) (eq-or-lt-of-le (ltb-false c d l)) in apart b a d c w k g (sym e)
+
+    low : (a ≡ b → ⊥) → c ≡ d → a + c * w ≡ b + d * w → ⊥
+    low n f e = let m : c * w ≡ d * w = ap (λ (x : ℕ). x * w) f in n (omega arith)
+
+    go : (p q : Bool) → eqb a b ≡ p → eqb c d ≡ q → eqb (a + c * w) (b + d * w) ≡ (p && q)
+    go true true e f = eq-eqb (a + c * w) (b + d * w) (λ i. eqb-true a b e i + eqb-true c d f i * w)
+    go true false e f = ne-eqb (a + c * w) (b + d * w) (high (ltb c d) refl (eqb-false c d f))
+    go false true e f = ne-eqb (a + c * w) (b + d * w) (low (eqb-false a b e) (eqb-true c d f))
+    go false false e f = ne-eqb (a + c * w) (b + d * w) (high (ltb c d) refl (eqb-false c d f))
+
+-- two fields are equal where both their parts are
+pub field-same : (n m : ℕ) (s : List ℕ) (at to : ℕ) → Bytes s → eqb (fieldAt (n + m) s at) (fieldAt (n + m) s to) ≡ (eqb (fieldAt n s at) (fieldAt n s to) && eqb (fieldAt m s (at + n)) (fieldAt m s (to + n)))
+field-same n m s at to h =
+    (λ i. eqb (field-split n m s at i) (field-split n m s to i))
+    ∙ sum-same (fieldAt n s at) (fieldAt n s to) (fieldAt m s (at + n)) (fieldAt m s (to + n)) (256 ^ n) (field-below n s at h) (field-below n s to h)
 
 -- ---- a field written and read back
 

@@ -44,10 +44,17 @@ fn field_at(s: &[u8], at: usize, n: usize) -> u64
 }
 
 // How many bytes stand from the place on.
-fn left(s: &[u8], at: usize) -> usize
+pub fn left(s: &[u8], at: usize) -> usize
     ensures { λ r. ⌜ r ≡ length (now (s .entry)) - at ⌝ }
 {
     if at <= s.len() { s.len() - at } else { 0 }
+}
+
+// The place n bytes before, 0 where there is none.
+pub fn before(at: usize, n: usize) -> usize
+    ensures { λ r. ⌜ r ≡ at - n ⌝ }
+{
+    if n <= at { at - n } else { 0 }
 }
 
 // Two bytes that are there, and four.

@@ -1,5 +1,5 @@
 -- Refusal numbers, put together in the order of the checks. 0 is no refusal. Definitions only.
-use Prim.Native.Nat.{ℕ, zero, suc}
+use Prim.Native.Nat.{ℕ, zero, suc, _+_}
 use mathlib.Core.Bool.{Bool, true, false}
 
 -- n where the rule is broken
@@ -11,3 +11,8 @@ ask false n = n
 abbrev pub orElse : ℕ → ℕ → ℕ
 orElse zero b = b
 orElse (suc a) b = suc a
+
+-- the first that is not 0 among n numbers, f i and those behind it
+unfoldable pub firstRefusal : (ℕ → ℕ) → ℕ → ℕ → ℕ
+firstRefusal f i zero = 0
+firstRefusal f i (suc n) = orElse (f i) (firstRefusal f (i + 1) n)

@@ -83,6 +83,14 @@ fn zeros_17(s: &[u8], at: usize) -> bool
     both(byte_at(s, at) == 0, zeros_16(s, at + 1))
 }
 
+// Whether the 19 bytes of a scalar that is not there are zeros.
+pub fn zeros_19(s: &[u8], at: usize) -> bool
+    requires { ⌜ at < 2 ^ 61 ⌝ }
+    ensures { λ r. ⌜ r ≡ zerosAt 19 (now (s .entry)) at ⌝ }
+{
+    both(byte_at(s, at) == 0, zeros_18(s, at + 1))
+}
+
 // Whether a sheet may hold x: +0, or a number of either sign no nearer to zero than 2^-400 and no
 // farther from it than 2^400.
 fn float64_lawful(x: f64) -> bool

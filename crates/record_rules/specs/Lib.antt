@@ -1,0 +1,6 @@
+pub mod Fields
+pub mod Rows
+pub mod Catalog
+pub mod Columns
+pub mod Classes
+pub mod Cases

@@ -1,0 +1,25 @@
+-- Tables of 10 bytes and keys of 9. Definitions only.
+use Prim.Native.Nat.{ℕ, _+_}
+use mathlib.Core.Bool.{cond}
+use mathlib.Core.List.{List}
+use lib.Dec.{eqb}
+use Rattle.le.specs.Fields.{byteAt, u16At, u64At}
+use Rattle.records.specs.declared.catalog.RowCount.{RowCount}
+use Rattle.records.specs.declared.catalog.RowCount.the-variants.{Unknown, Known}
+use Rattle.records.specs.declared.catalog.Table.{Table}
+use Rattle.records.specs.declared.catalog.Key.{Key}
+use Rattle.records.specs.declared.catalog.Key.the-variants.{Unique, Foreign}
+
+-- all ones: unknown
+abbrev pub rowCountOf : ℕ → RowCount
+rowCountOf n = cond (eqb n 0xffff_ffff_ffff_ffff) Unknown (Known n)
+
+unfoldable pub tableAt : List ℕ → ℕ → Table
+tableAt s at = record { table = u16At s at; rows = rowCountOf (u64At s (at + 2)) }
+
+-- kind 1 is unique, every other foreign; of a unique key the referenced fields stand for nothing
+unfoldable pub keyAt : List ℕ → ℕ → Key
+keyAt s at =
+    cond (eqb (byteAt s at) 1)
+    (Unique (u16At s (at + 1)) (u16At s (at + 3)))
+    (Foreign (u16At s (at + 1)) (u16At s (at + 3)) (u16At s (at + 5)) (u16At s (at + 7)))

@@ -1,0 +1,58 @@
+-- What an accepted sheet keeps: every count, every record at its place, and the end. Assumes nothing.
+use Prim.Native.Nat.{ℕ, zero, suc, _<_, _≤_}
+use mathlib.Core.Path.{_≡_, refl}
+use mathlib.Core.List.{List}
+use native.Mathlib.Omega.{arith}
+use lib.Dec.{leb, eqb}
+use lib.ListN.{length}
+use borrow.Author.Tests.{leb-true, eqb-true}
+use Rattle.le.specs.Fields.{u16At}
+use Rattle.rules.specs.Rules.{ask, orElse, firstRefusal}
+use Rattle.rules.proofs.RuleLaws.{ask-kept, else-first, else-second, each-kept}
+use Rattle.sheet.specs.Order.{kindAt, sectionAt, sectionsIn}
+use Rattle.sheet.specs.Rules.{countRefusal, recordsRefusal, sectionRefusal}
+use Rattle.sheet.specs.Check.{refusalIn, sheetRefusal, verdict, check}
+use Rattle.sheet.specs.declared.Sections.{Sections}
+use Rattle.sheet.specs.declared.Checked.the-variants.{Accepted}
+
+verdict-accepted : (n : ℕ) (x y : Sections) → verdict n x ≡ Accepted y → (n ≡ 0) × (x ≡ y)
+verdict-accepted zero x y e = (refl, cc)
+verdict-accepted (suc n) x y e = let z : _≡_ {A = ℕ} 0 1 = cc in absurd (no z)
+  where
+    no : _≡_ {A = ℕ} 0 1 → ⊥
+    no z = omega arith
+
+-- the answer: no refusal, and the sections where the bytes have them
+pub accepted : (s : List ℕ) (x : Sections) → check s ≡ Accepted x → (sheetRefusal s ≡ 0) × (sectionsIn s ≡ x)
+unfolding check
+accepted s x e = verdict-accepted (sheetRefusal s) (sectionsIn s) x e
+
+pub accepted-back : (s : List ℕ) → sheetRefusal s ≡ 0 → check s ≡ Accepted (sectionsIn s)
+unfolding check
+accepted-back s e = rw e refl
+
+module _ (s : List ℕ) (kept : sheetRefusal s ≡ 0) where
+  pub accepted-length : length s ≤ 65535
+  unfolding sheetRefusal
+  accepted-length = leb-true (length s) 65535 (ask-kept (leb (length s) 65535) 1 (omega arith) (else-first (ask (leb (length s) 65535) 1) _ kept))
+
+  rest-kept : orElse (firstRefusal (refusalIn s) 0 12) (ask (eqb (sectionAt s 12) (length s)) 10) ≡ 0
+  unfolding sheetRefusal
+  rest-kept = else-second (ask (leb (length s) 65535) 1) _ kept
+
+  pub accepted-end : sectionAt s 12 ≡ length s
+  accepted-end = eqb-true (sectionAt s 12) (length s) (ask-kept (eqb (sectionAt s 12) (length s)) 10 (omega arith) (else-second (firstRefusal (refusalIn s) 0 12) _ rest-kept))
+
+  pub accepted-section : (k : ℕ) → k < 12 → refusalIn s k ≡ 0
+  accepted-section k l = each-kept (refusalIn s) 12 (else-first (firstRefusal (refusalIn s) 0 12) _ rest-kept) k l
+
+  pub accepted-count : (k : ℕ) → k < 12 → countRefusal (kindAt k) s (sectionAt s 9) (sectionAt s k) ≡ 0
+  unfolding refusalIn sectionRefusal
+  accepted-count k l = else-first (countRefusal (kindAt k) s (sectionAt s 9) (sectionAt s k)) _ (accepted-section k l)
+
+  -- record i of section k
+  pub accepted-record : (k : ℕ) → k < 12 → (i : ℕ) → i < u16At s (sectionAt s k) → recordsRefusal (kindAt k) s (sectionAt s 2) (sectionAt s 9) (sectionAt s k) i ≡ 0
+  unfolding refusalIn sectionRefusal
+  accepted-record k l i h =
+      each-kept (recordsRefusal (kindAt k) s (sectionAt s 2) (sectionAt s 9) (sectionAt s k)) (u16At s (sectionAt s k))
+      (else-second (countRefusal (kindAt k) s (sectionAt s 9) (sectionAt s k)) _ (accepted-section k l)) i h

@@ -1,0 +1,87 @@
+use Rattle.sheet.specs.Rules.{recordRefusal, recordsRefusal}
+use Rattle.sheet.specs.Order.{recordEnd, recordAt}
+use native.Mathlib.Nat.{le-antisymm, sub-zero}
+use Rattle.sheet.proofs.RoomLaws.{record-room}
+use Rattle.sheet.proofs.PlaceLaws.{record-next}
+use Rattle.sheet.proofs.WalkLaws.{tally-first}
+use Rattle.sheet.proofs.VerdictLaws.{reached-refused, reached-end}
+use Rattle.sheet.specs.Walk.{tallyBefore}
+use Rattle.rules.proofs.RuleLaws.{rest-next, rest-broken, rest-none}
+use Rattle.rules.specs.Rules.{firstRefusal}
+use lib.ListN.{length}
+use native.Mathlib.Omega.{arith}
+use Prim.Native.Nat.{ℕ, _≤_, _-_, _*_}
+use mathlib.Core.Path.{_≡_, refl, sym, _∙_, ap, subst}
+use Rattle.sheet.proofs.walk.walk_records.Statement.{statement}
+use Rattle.sheet.proofs.walk.walk_records.Tie as tie
+
+abbrev Inv-loop : tie.InvT-loop
+Inv-loop s kind sketches expressions start n at₀ tally₀ i₀ at tally i =
+    (firstRefusal (recordsRefusal kind s sketches expressions start) i (n - i) ≡ firstRefusal (recordsRefusal kind s sketches expressions start) 0 n)
+    × ((at ≡ recordAt kind s start i) × (tally ≡ tallyBefore kind s expressions start i))
+    × ((i ≤ n) × ((at ≤ length s) × (tally ≤ 65535 * i)))
+
+abbrev μ-loop : tie.MeasureT-loop
+μ-loop s kind sketches expressions start n at₀ tally₀ i₀ at tally i = n - i
+
+add-at : tie.Need-add-at Inv-loop μ-loop
+add-at c = omega arith
+
+loop-holds : tie.Need-loop-holds Inv-loop μ-loop
+unfolding recordAt
+loop-holds c = (simp sub-zero, (refl, tally-first _ _ _ _), (omega arith, (omega arith, omega arith)))
+
+record-refusal-requires : tie.Need-record-refusal-requires Inv-loop μ-loop
+record-refusal-requires c κs = let l = c .loop-test .taken in (((omega arith, omega arith), (omega arith, omega arith)), (omega arith, c .before .loop .inv .1 .1))
+
+returns : tie.Need-returns Inv-loop μ-loop
+unfolding recordRefusal
+returns c =
+    let same = c .before .record-refusal .ensures ∙ ap (recordRefusal (c .before .before .before .before .before .args .kind) (c .before .before .before .before .before .args .s .now) (c .before .before .before .before .before .args .sketches) (c .before .before .before .before .before .args .expressions) (c .before .before .before .before .before .args .start) (c .before .before .before .loop .i)) (c .before .before .before .loop .inv .1 .0) in
+    reached-refused _ _ _ (same ∙ rest-broken _ _ _ _ (c .before .before .before .loop .inv .0) (c .before .before .loop-test .taken) (λ e. c .if1 .taken (same ∙ e))) (c .if1 .taken)
+
+next-tally-requires : tie.Need-next-tally-requires Inv-loop μ-loop
+next-tally-requires c κs = (((omega arith, omega arith), c .before .before .before .loop .inv .1 .0), (omega arith, c .before .before .before .loop .inv .1 .1))
+
+record-end-requires : tie.Need-record-end-requires Inv-loop μ-loop
+record-end-requires c κs = omega arith
+
+add-i : tie.Need-add-i Inv-loop μ-loop
+add-i c = omega arith
+
+loop-less : tie.Need-loop-less Inv-loop μ-loop
+loop-less c = omega arith
+
+loop-again : tie.Need-loop-again Inv-loop μ-loop
+unfolding recordRefusal
+loop-again c =
+    let a = c .before .before .before .before .before .before .before .args in
+    let l = c .before .before .before .before .before .loop in
+    let kept : recordsRefusal (a .kind) (a .s .now) (a .sketches) (a .expressions) (a .start) (l .i) ≡ 0 = sym (c .before .before .before .record-refusal .ensures ∙ ap (recordRefusal (c .before .before .before .before .before .before .before .args .kind) (c .before .before .before .before .before .before .before .args .s .now) (c .before .before .before .before .before .before .before .args .sketches) (c .before .before .before .before .before .before .before .args .expressions) (c .before .before .before .before .before .before .before .args .start) (c .before .before .before .before .before .loop .i)) (c .before .before .before .before .before .loop .inv .1 .0)) ∙ c .before .before .if1 .left in
+    let end = c .record-end .ensures ∙ ap (recordEnd (a .kind) (a .s .now)) (l .inv .1 .0) in
+    let room = record-room (a .s .now) (a .sketches) (a .expressions) (a .start) (l .i) (a .kind) kept in
+    let next = c .before .next-tally .ensures .1 in (
+      rest-next _ _ _ _ (l .inv .0) (c .before .before .before .before .loop-test .taken) kept,
+      (end ∙ record-next (a .kind) (a .s .now) (a .start) (l .i), c .before .next-tally .ensures .0),
+      (omega arith, (subst (λ (at : ℕ). at ≤ length (a .s .now)) (sym end) room, omega arith)),
+    )
+
+returns-2 : tie.Need-returns-2 Inv-loop μ-loop
+returns-2 c = reached-end _ _ _ (rest-none _ _ _ _ (c .before .loop .inv .0) (c .loop-test .left)) (c .before .loop .inv .1 .0 ∙ ap (recordAt _ _ _) (le-antisymm (c .before .loop .inv .2 .0) (c .loop-test .left)))
+
+pub walk-records-spec : {M : Type 1} → statement M
+walk-records-spec =
+    tie.close
+    (tie.spec
+    Inv-loop
+    μ-loop
+    add-at
+    loop-holds
+    record-refusal-requires
+    returns
+    next-tally-requires
+    record-end-requires
+    add-i
+    loop-less
+    loop-again
+    returns-2)

@@ -1,0 +1,100 @@
+use mathlib.Core.Path.{ap, _∙_}
+use mathlib.Core.Bool.{Bool}
+use Rattle.rules.specs.Rules.{ask, orElse}
+use Rattle.record_rules.specs.Fields.{countLawful}
+use Rattle.sketch_rules.specs.Sketches.{itemRefusal}
+use borrow.Author.Needs.{needs}
+use Rattle.sketch_rules.proofs.item_refusal.Statement.{statement}
+use Rattle.sketch_rules.proofs.item_refusal.Tie as tie
+
+mul-at : tie.Need-mul-at
+mul-at c = search needs
+
+add-at : tie.Need-add-at
+add-at c = search needs
+
+whole-requires : tie.Need-whole-requires
+whole-requires c κs = search needs
+
+scalar-lawful-requires : tie.Need-scalar-lawful-requires
+scalar-lawful-requires c κs = search needs
+
+ask-requires : tie.Need-ask-requires
+ask-requires c κs = search needs
+
+twice-refusal-requires : tie.Need-twice-refusal-requires
+twice-refusal-requires c κs = search needs
+
+add-u64-at : tie.Need-add-u64-at
+add-u64-at c = search needs
+
+u64-at-requires : tie.Need-u64-at-requires
+u64-at-requires c κs = search needs
+
+count-lawful-requires : tie.Need-count-lawful-requires
+count-lawful-requires c κs = search needs
+
+ask-requires-2 : tie.Need-ask-requires-2
+ask-requires-2 c κs = search needs
+
+add-u64-at-2 : tie.Need-add-u64-at-2
+add-u64-at-2 c = search needs
+
+u64-at-requires-2 : tie.Need-u64-at-requires-2
+u64-at-requires-2 c κs = search needs
+
+count-lawful-requires-2 : tie.Need-count-lawful-requires-2
+count-lawful-requires-2 c κs = search needs
+
+ask-requires-3 : tie.Need-ask-requires-3
+ask-requires-3 c κs = search needs
+
+or-else-requires : tie.Need-or-else-requires
+or-else-requires c κs = search needs
+
+or-else-requires-2 : tie.Need-or-else-requires-2
+or-else-requires-2 c κs = search needs
+
+or-else-requires-3 : tie.Need-or-else-requires-3
+or-else-requires-3 c κs = search needs
+
+or-else-requires-4 : tie.Need-or-else-requires-4
+or-else-requires-4 c κs = search needs
+
+returns : tie.Need-returns
+unfolding itemRefusal
+returns c =
+    let d = c .before .before .before .before in
+    let e = d .before .before .before in
+    let f = e .before .before .before in
+    let error = d .ask3 .ensures ∙ ap (λ (b : Bool). ask b 4) (d .before .count-lawful2 .ensures ∙ ap countLawful (d .before .before .u64-at2 .ensures)) in
+    let lower = e .ask2 .ensures ∙ ap (λ (b : Bool). ask b 4) (e .before .count-lawful .ensures ∙ ap countLawful (e .before .before .u64-at .ensures)) in
+    let value = f .before .ask .ensures ∙ ap (λ (b : Bool). ask b 5) (f .before .before .scalar-lawful .ensures) in
+    let numbers = c .before .before .before .or-else .ensures ∙ λ i. orElse (lower i) (error i) in
+    let last = c .before .before .or-else2 .ensures ∙ λ i. orElse (f .twice-refusal .ensures i) (numbers i) in
+    let fields = c .before .or-else3 .ensures ∙ λ i. orElse (value i) (last i) in
+    c .or-else4 .ensures ∙ λ i. orElse (f .before .before .before .whole .ensures i) (fields i)
+
+pub item-refusal-spec : {M : Type 1} → statement M
+item-refusal-spec =
+    tie.close
+    (tie.spec
+    mul-at
+    add-at
+    whole-requires
+    scalar-lawful-requires
+    ask-requires
+    twice-refusal-requires
+    add-u64-at
+    u64-at-requires
+    count-lawful-requires
+    ask-requires-2
+    add-u64-at-2
+    u64-at-requires-2
+    count-lawful-requires-2
+    ask-requires-3
+    or-else-requires
+    or-else-requires-2
+    or-else-requires-3
+    or-else-requires-4
+    returns)

@@ -1,0 +1,2 @@
+pub mod Sketches
+pub mod Cases
