@@ -1,6 +1,6 @@
 -- The rules of columns' profiles. Definitions only.
 use Prim.Native.Nat.{ℕ, _+_}
-use mathlib.Core.Bool.{Bool, Bool·beq, _&&_, _||_}
+use mathlib.Core.Bool.{Bool·beq, _&&_, _||_}
 use mathlib.Core.List.{List}
 use lib.Dec.{ltb}
 use Rattle.le.specs.Fields.{u16At}

@@ -9,7 +9,7 @@ use Rattle.scalar_bytes.specs.Reading.{scalarLawful}
 use Rattle.scalar_bytes.specs.declared.reads.ScalarPlace.the-variants.{Sketch}
 use Rattle.record_rules.specs.Fields.{whole, countLawful}
 
--- One value by its 19 bytes. Of scalars that keep the scalar rules that is equality (`equal-bytes` of scalar_bytes).
+-- one value by its 19 bytes: of scalars that keep the scalar rules that is equality (`same-value`)
 abbrev pub sameValue : List ℕ → ℕ → ℕ → Bool
 sameValue s a b = eqb (fieldAt 19 s a) (fieldAt 19 s b)
 

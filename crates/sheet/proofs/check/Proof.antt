@@ -1,3 +1,5 @@
+use Rattle.sheet.specs.Walk.{reached}
+use Rattle.sheet.specs.declared.walk.Reached.the-variants.{Refused as Stopped, At}
 use Rattle.sheet.proofs.RoomLaws.{next-room}
 use Rattle.sheet.proofs.PlaceLaws.{startsBefore, starts-next, starts-all, Short, short-none, short-set}
 use Rattle.sheet.proofs.VerdictLaws.{refused-back, end-back, section-told, sheet-long, sheet-broken, sheet-end}
@@ -9,7 +11,7 @@ use lib.ListN.{length}
 use borrow.Author.Needs.{needs}
 use native.Mathlib.Nat.{le-antisymm}
 use native.Mathlib.Omega.{arith}
-use Prim.Native.Nat.{ℕ, _≤_, _-_}
+use Prim.Native.Nat.{ℕ, _≤_, _+_, _-_}
 use mathlib.Core.Path.{_≡_, refl, sym, _∙_, ap, subst}
 use Rattle.sheet.proofs.check.Statement.{statement}
 use Rattle.sheet.proofs.check.Tie as tie
@@ -63,7 +65,8 @@ enum-known-reached c = search needs
 returns-2 : tie.Need-returns-2 Inv-loop μ-loop
 returns-2 c =
     let l = c .before .before .before .before .before .before .loop in
-    let told = sym (c .before .reached .given .1) ∙ (c .before .before .before .section .ensures ∙ section-told _ _ _ _ _ (c .before .before .before .before .before .before .loop .inv .1 .0) (c .before .before .before .before .before .before .loop .inv .1 .1) (c .before .before .before .before .before .loop-test .taken) (c .before .before .before .before .kind-at .ensures)) in
+    let s = c .before .before .before .before .before .before .before .before .before .args .s .now in
+    let told : Stopped (c .before .reached .given .0 .0) ≡ reached (refusalIn s (l .k)) (sectionAt s (l .k + 1)) = sym (c .before .reached .given .1) ∙ (c .before .before .before .section .ensures ∙ section-told _ _ _ _ _ (l .inv .1 .0) (l .inv .1 .1) (c .before .before .before .before .before .loop-test .taken) (c .before .before .before .before .kind-at .ensures)) in
     let back = refused-back _ _ _ told in
     sheet-broken _ _ (l .inv .2 .1 .1 .0) (back .0 ∙ rest-broken _ _ _ _ (l .inv .0) (c .before .before .before .before .before .loop-test .taken) (λ e. back .1 (back .0 ∙ e))) (back .1)
 
@@ -79,12 +82,13 @@ loop-less c = omega arith
 loop-again : tie.Need-loop-again Inv-loop μ-loop
 loop-again c =
     let l = c .before .before .before .before .before .before .loop in
-    let told = sym (c .before .reached2 .given .1) ∙ (c .before .before .before .section .ensures ∙ section-told _ _ _ _ _ (c .before .before .before .before .before .before .loop .inv .1 .0) (c .before .before .before .before .before .before .loop .inv .1 .1) (c .before .before .before .before .before .loop-test .taken) (c .before .before .before .before .kind-at .ensures)) in
+    let s = c .before .before .before .before .before .before .before .before .before .args .s .now in
+    let told : At (c .before .reached2 .given .0 .0) ≡ reached (refusalIn s (l .k)) (sectionAt s (l .k + 1)) = sym (c .before .reached2 .given .1) ∙ (c .before .before .before .section .ensures ∙ section-told _ _ _ _ _ (l .inv .1 .0) (l .inv .1 .1) (c .before .before .before .before .before .loop-test .taken) (c .before .before .before .before .kind-at .ensures)) in
     let back = end-back _ _ _ told in
     let room = next-room _ (l .k) (back .0) in (
       rest-next _ _ _ _ (l .inv .0) (c .before .before .before .before .before .loop-test .taken) (back .0),
       (rw (l .inv .1 .0, l .inv .1 .1) (starts-next _ (l .k)), back .1),
-      (omega arith, (subst (λ (at : ℕ). at ≤ length (c .before .before .before .before .before .before .before .before .before .args .s .now)) (sym (back .1)) room, (l .inv .2 .1 .1 .0, short-set (l .starts) (l .k) (l .at) (omega arith) (l .inv .2 .1 .1 .1)))),
+      (omega arith, (subst (λ (at : ℕ). at ≤ length s) (sym (back .1)) room, (l .inv .2 .1 .1 .0, short-set (l .starts) (l .k) (l .at) (omega arith) (l .inv .2 .1 .1 .1)))),
     )
 
 ask-requires : tie.Need-ask-requires Inv-loop μ-loop

@@ -37,8 +37,10 @@ record-refusal-requires c κs = let l = c .loop-test .taken in (((omega arith, o
 returns : tie.Need-returns Inv-loop μ-loop
 unfolding recordRefusal
 returns c =
-    let same = c .before .record-refusal .ensures ∙ ap (recordRefusal (c .before .before .before .before .before .args .kind) (c .before .before .before .before .before .args .s .now) (c .before .before .before .before .before .args .sketches) (c .before .before .before .before .before .args .expressions) (c .before .before .before .before .before .args .start) (c .before .before .before .loop .i)) (c .before .before .before .loop .inv .1 .0) in
-    reached-refused _ _ _ (same ∙ rest-broken _ _ _ _ (c .before .before .before .loop .inv .0) (c .before .before .loop-test .taken) (λ e. c .if1 .taken (same ∙ e))) (c .if1 .taken)
+    let a = c .before .before .before .before .before .args in
+    let l = c .before .before .before .loop in
+    let told : c .before .record-refusal .result ≡ recordsRefusal (a .kind) (a .s .now) (a .sketches) (a .expressions) (a .start) (l .i) = c .before .record-refusal .ensures ∙ ap (recordRefusal (a .kind) (a .s .now) (a .sketches) (a .expressions) (a .start) (l .i)) (l .inv .1 .0) in
+    reached-refused _ _ _ (told ∙ rest-broken _ _ _ _ (l .inv .0) (c .before .before .loop-test .taken) (λ e. c .if1 .taken (told ∙ e))) (c .if1 .taken)
 
 next-tally-requires : tie.Need-next-tally-requires Inv-loop μ-loop
 next-tally-requires c κs = (((omega arith, omega arith), c .before .before .before .loop .inv .1 .0), (omega arith, c .before .before .before .loop .inv .1 .1))
@@ -57,8 +59,9 @@ unfolding recordRefusal
 loop-again c =
     let a = c .before .before .before .before .before .before .before .args in
     let l = c .before .before .before .before .before .loop in
-    let kept : recordsRefusal (a .kind) (a .s .now) (a .sketches) (a .expressions) (a .start) (l .i) ≡ 0 = sym (c .before .before .before .record-refusal .ensures ∙ ap (recordRefusal (c .before .before .before .before .before .before .before .args .kind) (c .before .before .before .before .before .before .before .args .s .now) (c .before .before .before .before .before .before .before .args .sketches) (c .before .before .before .before .before .before .before .args .expressions) (c .before .before .before .before .before .before .before .args .start) (c .before .before .before .before .before .loop .i)) (c .before .before .before .before .before .loop .inv .1 .0)) ∙ c .before .before .if1 .left in
-    let end = c .record-end .ensures ∙ ap (recordEnd (a .kind) (a .s .now)) (l .inv .1 .0) in
+    let told : c .before .before .before .record-refusal .result ≡ recordsRefusal (a .kind) (a .s .now) (a .sketches) (a .expressions) (a .start) (l .i) = c .before .before .before .record-refusal .ensures ∙ ap (recordRefusal (a .kind) (a .s .now) (a .sketches) (a .expressions) (a .start) (l .i)) (l .inv .1 .0) in
+    let kept : recordsRefusal (a .kind) (a .s .now) (a .sketches) (a .expressions) (a .start) (l .i) ≡ 0 = sym told ∙ c .before .before .if1 .left in
+    let end : c .record-end .result ≡ recordEnd (a .kind) (a .s .now) (recordAt (a .kind) (a .s .now) (a .start) (l .i)) = c .record-end .ensures ∙ ap (recordEnd (a .kind) (a .s .now)) (l .inv .1 .0) in
     let room = record-room (a .s .now) (a .sketches) (a .expressions) (a .start) (l .i) (a .kind) kept in
     let next = c .before .next-tally .ensures .1 in (
       rest-next _ _ _ _ (l .inv .0) (c .before .before .before .before .loop-test .taken) kept,
