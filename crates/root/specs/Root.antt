@@ -1,5 +1,5 @@
 -- squareRoot of IEEE 754-2019 (5.4.1, 4.3.1) at binary64: the infinitely precise root, rounded once to the nearest value, a tie to the even one. Definitions only.
--- A finite x > 0 is n squares of the format's smallest value, so √x is √n smallest values, and √n is a real number that squares compare.
+-- Counted in squares of the format's smallest value a positive finite x is a whole number n. Its root is then √n smallest values, and √n is compared by squares.
 use Prim.Native.Nat.{ℕ, zero, suc, _+_, _-_, _*_, _/_, _^_, compare}
 use mathlib.Core.Bool.{false, cond}
 use lib.Ieee.{Float, nan, inf, fin, Format, binary64, prec, low, up, down, size, nearest, units}

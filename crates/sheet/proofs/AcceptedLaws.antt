@@ -9,7 +9,7 @@ use borrow.Author.Tests.{leb-true, eqb-true}
 use Rattle.le.specs.Fields.{u16At}
 use Rattle.rules.specs.Rules.{ask, orElse, firstRefusal}
 use Rattle.rules.proofs.RuleLaws.{ask-kept, else-first, else-second, each-kept}
-use Rattle.sheet.specs.Order.{kindAt, sectionAt, sectionsIn}
+use Rattle.sheet.specs.Order.{kindAt, sectionCount, sketchesNumber, expressionsNumber, sectionAt, sectionsIn}
 use Rattle.sheet.specs.Rules.{countRefusal, recordsRefusal, sectionRefusal}
 use Rattle.sheet.specs.Check.{refusalIn, sheetRefusal, verdict, check}
 use Rattle.sheet.specs.declared.Sections.{Sections}
@@ -36,23 +36,23 @@ module _ (s : List ℕ) (kept : sheetRefusal s ≡ 0) where
   unfolding sheetRefusal
   accepted-length = leb-true (length s) 65535 (ask-kept (leb (length s) 65535) 1 (omega arith) (else-first (ask (leb (length s) 65535) 1) _ kept))
 
-  rest-kept : orElse (firstRefusal (refusalIn s) 0 12) (ask (eqb (sectionAt s 12) (length s)) 10) ≡ 0
+  rest-kept : orElse (firstRefusal (refusalIn s) 0 sectionCount) (ask (eqb (sectionAt s sectionCount) (length s)) 10) ≡ 0
   unfolding sheetRefusal
   rest-kept = else-second (ask (leb (length s) 65535) 1) _ kept
 
-  pub accepted-end : sectionAt s 12 ≡ length s
-  accepted-end = eqb-true (sectionAt s 12) (length s) (ask-kept (eqb (sectionAt s 12) (length s)) 10 (omega arith) (else-second (firstRefusal (refusalIn s) 0 12) _ rest-kept))
+  pub accepted-end : sectionAt s sectionCount ≡ length s
+  accepted-end = eqb-true (sectionAt s sectionCount) (length s) (ask-kept (eqb (sectionAt s sectionCount) (length s)) 10 (omega arith) (else-second (firstRefusal (refusalIn s) 0 sectionCount) _ rest-kept))
 
-  pub accepted-section : (k : ℕ) → k < 12 → refusalIn s k ≡ 0
-  accepted-section k l = each-kept (refusalIn s) 12 (else-first (firstRefusal (refusalIn s) 0 12) _ rest-kept) k l
+  pub accepted-section : (k : ℕ) → k < sectionCount → refusalIn s k ≡ 0
+  accepted-section k l = each-kept (refusalIn s) sectionCount (else-first (firstRefusal (refusalIn s) 0 sectionCount) _ rest-kept) k l
 
-  pub accepted-count : (k : ℕ) → k < 12 → countRefusal (kindAt k) s (sectionAt s 9) (sectionAt s k) ≡ 0
+  pub accepted-count : (k : ℕ) → k < sectionCount → countRefusal (kindAt k) s (sectionAt s expressionsNumber) (sectionAt s k) ≡ 0
   unfolding refusalIn sectionRefusal
-  accepted-count k l = else-first (countRefusal (kindAt k) s (sectionAt s 9) (sectionAt s k)) _ (accepted-section k l)
+  accepted-count k l = else-first (countRefusal (kindAt k) s (sectionAt s expressionsNumber) (sectionAt s k)) _ (accepted-section k l)
 
   -- record i of section k
-  pub accepted-record : (k : ℕ) → k < 12 → (i : ℕ) → i < u16At s (sectionAt s k) → recordsRefusal (kindAt k) s (sectionAt s 2) (sectionAt s 9) (sectionAt s k) i ≡ 0
+  pub accepted-record : (k : ℕ) → k < sectionCount → (i : ℕ) → i < u16At s (sectionAt s k) → recordsRefusal (kindAt k) s (sectionAt s sketchesNumber) (sectionAt s expressionsNumber) (sectionAt s k) i ≡ 0
   unfolding refusalIn sectionRefusal
   accepted-record k l i h =
-      each-kept (recordsRefusal (kindAt k) s (sectionAt s 2) (sectionAt s 9) (sectionAt s k)) (u16At s (sectionAt s k))
-      (else-second (countRefusal (kindAt k) s (sectionAt s 9) (sectionAt s k)) _ (accepted-section k l)) i h
+      each-kept (recordsRefusal (kindAt k) s (sectionAt s sketchesNumber) (sectionAt s expressionsNumber) (sectionAt s k)) (u16At s (sectionAt s k))
+      (else-second (countRefusal (kindAt k) s (sectionAt s expressionsNumber) (sectionAt s k)) _ (accepted-section k l)) i h

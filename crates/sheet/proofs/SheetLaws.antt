@@ -1,4 +1,4 @@
--- Element i of a section's list is the record read at its place. Assumes nothing.
+-- The elements of a section's list, by place: the i-th is what is read where record i stands. Assumes nothing.
 use Prim.Native.Nat.{ℕ, _+_, _*_, _<_}
 use mathlib.Core.Path.{_≡_, ap, _∙_}
 use mathlib.Core.List.{List, List·Memᴰ}

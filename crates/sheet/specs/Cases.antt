@@ -1,12 +1,12 @@
 -- Worked sheets: the empty case of document 01, a small one with a record in every section, and the sheet that one byte makes of it. Assumes nothing.
 use mathlib.Core.Path.{_≡_, refl}
 use Prim.Native.Nat.{ℕ}
-use mathlib.Core.Bool.{true, false}
+use mathlib.Core.Bool.{false}
 use mathlib.Core.List.{List, [], _∷_, _++_}
-use lib.IntN.{pos, negsuc}
+use lib.IntN.{pos}
 use lib.ListN.{replicate, set}
 use lib.Ieee.{fin, ofBits, le, neg}
-use Rattle.float.specs.Option.{some, none}
+use Rattle.float.specs.Option.{none}
 use Rattle.signed.specs.Signed.{signed, unsigned}
 use Rattle.le.specs.Fields.{fieldAt}
 use Rattle.scalar.specs.declared.Scalar.the-variants.{Int32}
@@ -19,10 +19,9 @@ use Rattle.records.specs.declared.columns.BaseColumn.the-variants.{Absent as No
 use Rattle.records.specs.declared.columns.SketchNumber.the-variants.{Absent as NoSketch, Present as SketchNo}
 use Rattle.records.specs.declared.expressions.BinaryOp.the-variants.{Eq}
 use Rattle.records.specs.declared.expressions.NaryOp.the-variants.{And}
-use Rattle.records.specs.declared.expressions.Expression.the-variants.{Literal, ColumnRef, Binary, Nary}
+use Rattle.records.specs.declared.expressions.Expression.the-variants.{ColumnRef, Binary, Nary}
 use Rattle.sheet.specs.Check.{check}
 use Rattle.sheet.specs.Sheet.{Sheet, sheetIn}
-use Rattle.sheet.specs.declared.Sections.{Sections}
 use Rattle.sheet.specs.declared.Checked.the-variants.{Refused, Accepted}
 
 abbrev zeros : ℕ → List ℕ

@@ -1,5 +1,5 @@
 -- What a walk over a section's records carries along. Definitions only.
-use Prim.Native.Nat.{ℕ, zero, suc, _+_}
+use Prim.Native.Nat.{ℕ, zero, suc}
 use mathlib.Core.List.{List}
 use Rattle.expression_rules.specs.Operands.{runsBefore, naryOf}
 use Rattle.sheet.specs.Rules.{itemsBefore}

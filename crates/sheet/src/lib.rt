@@ -1,6 +1,8 @@
 // A join sheet: whether its bytes keep every rule, and where its sections stand.
 ghost use mathlib.Core.Path.{_≡_};
 ghost use Rattle.sheet.specs.Check.{verdict, check};
+use order::EXPRESSIONS;
+use order::SKETCHES;
 use order::kind_at;
 use order::sections_of;
 use rules::ask;
@@ -52,7 +54,13 @@ pub fn check(s: &[u8]) -> Checked
     let mut k: usize = 0;
     while k < 12 {
         starts[k] = at as u16;
-        let reached = section(s, kind_at(k), starts[2] as usize, starts[9] as usize, at);
+        let reached = section(
+            s,
+            kind_at(k),
+            starts[SKETCHES] as usize,
+            starts[EXPRESSIONS] as usize,
+            at,
+        );
         match reached {
             Reached::Refused(n) => {
                 return Checked::Refused(n);

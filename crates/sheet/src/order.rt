@@ -1,9 +1,12 @@
-// The sections of a sheet in their order, which stands here and nowhere else: section 2 holds the
-// sketches, and section 9 the expressions.
+// The sections of a sheet in their order.
 ghost use mathlib.Core.Path.{_≡_};
-ghost use Prim.Native.Nat.{_<_, _^_};
 ghost use Rattle.sheet.specs.Order.{kindAt, sectionsOf};
 use crate::Sections;
+
+// The sections that others look back at.
+pub const SKETCHES: usize = 2;
+
+pub const EXPRESSIONS: usize = 9;
 
 // What the sections' records are.
 pub enum Kind {

@@ -4,7 +4,7 @@ use mathlib.Core.Path.{_≡_, sym, ap, _∙_}
 use mathlib.Core.Logic.{_↔_}
 use mathlib.Core.Bool.{true}
 use mathlib.Core.List.{List, [], _++_}
-use lib.ListN.{length, take, drop}
+use lib.ListN.{length}
 use borrow.Author.Tests.{eq-eqb, eqb-true}
 use Rattle.le.specs.Fields.{fieldAt, fieldBytes}
 use Rattle.le.proofs.FieldLaws.{Bytes, field-below, field-back, bytes-back}

@@ -1,4 +1,4 @@
-// The rules of sketches: the number of the first one broken, in the order of the bytes, or 0.
+// The rules of sketches, in the order of the bytes. A refusal is the number of a rule, or 0.
 ghost use mathlib.Core.Path.{_≡_};
 ghost use Prim.Native.Nat.{_<_, _^_, _*_, _+_};
 ghost use Rattle.rules.specs.Rules.{firstRefusal};
