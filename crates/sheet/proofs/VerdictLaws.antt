@@ -16,6 +16,7 @@ use Rattle.sheet.specs.Walk.{reached}
 use Rattle.sheet.specs.declared.Sections.{Sections}
 use Rattle.sheet.specs.declared.Checked.the-variants.{Refused}
 use Rattle.sheet.specs.declared.order.Kind.{Kind}
+use Rattle.sheet.specs.declared.walk.Reached.{Reached}
 use Rattle.sheet.specs.declared.walk.Reached.the-variants.{Refused as Stopped, At}
 use Rattle.sheet.proofs.PlaceLaws.{startsBefore, section-next}
 use Rattle.sheet.proofs.SectionLaws.{noted}
@@ -45,10 +46,11 @@ end-back n zero at e = (refl, cc)
 end-back n (suc m) at e = let z : _≡_ {A = ℕ} 0 1 = cc in absurd (no z)
 
 -- section k, by the starts noted so far
-pub section-told : (s starts : List ℕ) (at k : ℕ) (kind : Kind) → starts ≡ startsBefore s k → at ≡ sectionAt s k → k < 12 → kind ≡ kindAt k
-    → reached (sectionRefusal kind s (getD (set starts k at) 2 0) (getD (set starts k at) 9 0) at) (recordAt kind s at (u16At s at)) ≡ reached (refusalIn s k) (sectionAt s (k + 1))
+pub section-told : (s starts : List ℕ) (at k : ℕ) (kind : Kind) (r : Reached) → starts ≡ startsBefore s k → at ≡ sectionAt s k → k < 12 → kind ≡ kindAt k
+    → r ≡ reached (sectionRefusal kind s (getD (set starts k at) 2 0) (getD (set starts k at) 9 0) at) (recordAt kind s at (u16At s at))
+    → r ≡ reached (refusalIn s k) (sectionAt s (k + 1))
 unfolding startsBefore
-section-told s starts at k kind a b l e = rw (e, a, b, sym (section-next s k), noted s k l) refl
+section-told s starts at k kind r a b l e h = h ∙ rw (e, a, b, sym (section-next s k), noted s k l) refl
 
 -- ---- the sheet
 

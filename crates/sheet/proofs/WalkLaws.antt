@@ -8,7 +8,7 @@ use Rattle.le.specs.Fields.{u16At}
 use Rattle.expression_rules.specs.Operands.{runLength, runsBefore, naryFrom, naryOf}
 use Rattle.expression_rules.proofs.RunLaws.{runs-step, owner-next, owner-within}
 use Rattle.sheet.specs.Order.{recordAt}
-use Rattle.sheet.specs.Rules.{itemsBefore}
+use Rattle.sheet.specs.Rules.{itemsBefore, recordRefusal, recordsRefusal}
 use Rattle.sheet.specs.Walk.{ownerBefore, tallyBefore}
 use Rattle.sheet.specs.declared.order.Kind.{Kind}
 use Rattle.sheet.specs.declared.order.Kind.the-variants.{Rows, Settings, Sketches, Tables, Keys, Columns, Classes, Expressions, Operands, Conjuncts}
@@ -70,3 +70,11 @@ module _ (kind : Kind) (s : List ℕ) (expressions start i t : ℕ) (tally : t �
 
   pub operands-owner : kind ≡ Operands → naryFrom s expressions i t ≡ naryOf s expressions i
   operands-owner e = ap (naryFrom s expressions i) (operands-tally e) ∙ owner-of s expressions i
+
+-- ---- a record at its place
+
+pub record-told : (kind : Kind) (s : List ℕ) (sketches expressions start i at r : ℕ)
+    → r ≡ recordRefusal kind s sketches expressions start i at
+    → at ≡ recordAt kind s start i
+    → r ≡ recordsRefusal kind s sketches expressions start i
+record-told kind s sketches expressions start i at r e h = e ∙ ap (recordRefusal kind s sketches expressions start i) h

@@ -66,7 +66,7 @@ returns-2 : tie.Need-returns-2 Inv-loop μ-loop
 returns-2 c =
     let l = c .before .before .before .before .before .before .loop in
     let s = c .before .before .before .before .before .before .before .before .before .args .s .now in
-    let told : Stopped (c .before .reached .given .0 .0) ≡ reached (refusalIn s (l .k)) (sectionAt s (l .k + 1)) = sym (c .before .reached .given .1) ∙ (c .before .before .before .section .ensures ∙ section-told _ _ _ _ _ (l .inv .1 .0) (l .inv .1 .1) (c .before .before .before .before .before .loop-test .taken) (c .before .before .before .before .kind-at .ensures)) in
+    let told : Stopped (c .before .reached .given .0 .0) ≡ reached (refusalIn s (l .k)) (sectionAt s (l .k + 1)) = sym (c .before .reached .given .1) ∙ section-told _ _ _ _ _ _ (l .inv .1 .0) (l .inv .1 .1) (c .before .before .before .before .before .loop-test .taken) (c .before .before .before .before .kind-at .ensures) (c .before .before .before .section .ensures) in
     let back = refused-back _ _ _ told in
     sheet-broken _ _ (l .inv .2 .1 .1 .0) (back .0 ∙ rest-broken _ _ _ _ (l .inv .0) (c .before .before .before .before .before .loop-test .taken) (λ e. back .1 (back .0 ∙ e))) (back .1)
 
@@ -83,7 +83,7 @@ loop-again : tie.Need-loop-again Inv-loop μ-loop
 loop-again c =
     let l = c .before .before .before .before .before .before .loop in
     let s = c .before .before .before .before .before .before .before .before .before .args .s .now in
-    let told : At (c .before .reached2 .given .0 .0) ≡ reached (refusalIn s (l .k)) (sectionAt s (l .k + 1)) = sym (c .before .reached2 .given .1) ∙ (c .before .before .before .section .ensures ∙ section-told _ _ _ _ _ (l .inv .1 .0) (l .inv .1 .1) (c .before .before .before .before .before .loop-test .taken) (c .before .before .before .before .kind-at .ensures)) in
+    let told : At (c .before .reached2 .given .0 .0) ≡ reached (refusalIn s (l .k)) (sectionAt s (l .k + 1)) = sym (c .before .reached2 .given .1) ∙ section-told _ _ _ _ _ _ (l .inv .1 .0) (l .inv .1 .1) (c .before .before .before .before .before .loop-test .taken) (c .before .before .before .before .kind-at .ensures) (c .before .before .before .section .ensures) in
     let back = end-back _ _ _ told in
     let room = next-room _ (l .k) (back .0) in (
       rest-next _ _ _ _ (l .inv .0) (c .before .before .before .before .before .loop-test .taken) (back .0),

@@ -1,9 +1,9 @@
-use Rattle.sheet.specs.Rules.{recordRefusal, recordsRefusal}
+use Rattle.sheet.specs.Rules.{recordsRefusal}
 use Rattle.sheet.specs.Order.{recordEnd, recordAt}
 use native.Mathlib.Nat.{le-antisymm, sub-zero}
 use Rattle.sheet.proofs.RoomLaws.{record-room}
 use Rattle.sheet.proofs.PlaceLaws.{record-next}
-use Rattle.sheet.proofs.WalkLaws.{tally-first}
+use Rattle.sheet.proofs.WalkLaws.{tally-first, record-told}
 use Rattle.sheet.proofs.VerdictLaws.{reached-refused, reached-end}
 use Rattle.sheet.specs.Walk.{tallyBefore}
 use Rattle.rules.proofs.RuleLaws.{rest-next, rest-broken, rest-none}
@@ -35,11 +35,10 @@ record-refusal-requires : tie.Need-record-refusal-requires Inv-loop μ-loop
 record-refusal-requires c κs = let l = c .loop-test .taken in (((omega arith, omega arith), (omega arith, omega arith)), (omega arith, c .before .loop .inv .1 .1))
 
 returns : tie.Need-returns Inv-loop μ-loop
-unfolding recordRefusal
 returns c =
     let a = c .before .before .before .before .before .args in
     let l = c .before .before .before .loop in
-    let told : c .before .record-refusal .result ≡ recordsRefusal (a .kind) (a .s .now) (a .sketches) (a .expressions) (a .start) (l .i) = c .before .record-refusal .ensures ∙ ap (recordRefusal (a .kind) (a .s .now) (a .sketches) (a .expressions) (a .start) (l .i)) (l .inv .1 .0) in
+    let told : c .before .record-refusal .result ≡ recordsRefusal (a .kind) (a .s .now) (a .sketches) (a .expressions) (a .start) (l .i) = record-told _ _ _ _ _ _ _ _ (c .before .record-refusal .ensures) (l .inv .1 .0) in
     reached-refused _ _ _ (told ∙ rest-broken _ _ _ _ (l .inv .0) (c .before .before .loop-test .taken) (λ e. c .if1 .taken (told ∙ e))) (c .if1 .taken)
 
 next-tally-requires : tie.Need-next-tally-requires Inv-loop μ-loop
@@ -55,11 +54,10 @@ loop-less : tie.Need-loop-less Inv-loop μ-loop
 loop-less c = omega arith
 
 loop-again : tie.Need-loop-again Inv-loop μ-loop
-unfolding recordRefusal
 loop-again c =
     let a = c .before .before .before .before .before .before .before .args in
     let l = c .before .before .before .before .before .loop in
-    let told : c .before .before .before .record-refusal .result ≡ recordsRefusal (a .kind) (a .s .now) (a .sketches) (a .expressions) (a .start) (l .i) = c .before .before .before .record-refusal .ensures ∙ ap (recordRefusal (a .kind) (a .s .now) (a .sketches) (a .expressions) (a .start) (l .i)) (l .inv .1 .0) in
+    let told : c .before .before .before .record-refusal .result ≡ recordsRefusal (a .kind) (a .s .now) (a .sketches) (a .expressions) (a .start) (l .i) = record-told _ _ _ _ _ _ _ _ (c .before .before .before .record-refusal .ensures) (l .inv .1 .0) in
     let kept : recordsRefusal (a .kind) (a .s .now) (a .sketches) (a .expressions) (a .start) (l .i) ≡ 0 = sym told ∙ c .before .before .if1 .left in
     let end : c .record-end .result ≡ recordEnd (a .kind) (a .s .now) (recordAt (a .kind) (a .s .now) (a .start) (l .i)) = c .record-end .ensures ∙ ap (recordEnd (a .kind) (a .s .now)) (l .inv .1 .0) in
     let room = record-room (a .s .now) (a .sketches) (a .expressions) (a .start) (l .i) (a .kind) kept in
