@@ -14,9 +14,9 @@ little-endian. They work on a buffer of 65,536 bytes that starts as zeros.
 
 Standard error gets the lines that the program has to write.
 
-Where the expected numbers come from: each case says by hand which number it gets and at which field. `check_sheet`
-below is a reading of document 01 and of its settled readings, written for this list alone, and it has to give the
-same number at the same field. Each broken sheet stands beside an accepted one with the same bytes in front of that
+Where the expected numbers come from: each case states which number it gets and at which field, by itself or by a
+table of broken fields. `check_sheet` below is a reading of document 01, with what docs/DECISIONS.md settles, written
+for this list alone, and it has to give the same number at the same field. Each broken sheet stands beside an accepted one with the same bytes in front of that
 field, so the byte before the field is the last that is right; the few that have no such neighbour say so. The script
 stops with a message where any of this fails. The seed is fixed: every run writes the same bytes.
 """

@@ -1,5 +1,5 @@
-// The rules of records that stand by themselves: rows, settings, tables, keys, columns and classes.
-// Each function gives the number of the first rule broken, in the order of the bytes, or 0.
+// The rules of rows, settings, tables, keys, columns and classes. A function named for a refusal
+// gives the number of the first rule broken, in the order of the bytes, or 0.
 pub mod catalog;
 pub mod classes;
 pub mod columns;

@@ -1,5 +1,5 @@
 -- What an accepted sheet keeps: every count, every record at its place, and the end. Assumes nothing.
-use Prim.Native.Nat.{ℕ, zero, suc, _<_, _≤_}
+use Prim.Native.Nat.{ℕ, _<_, _≤_}
 use mathlib.Core.Path.{_≡_, refl}
 use mathlib.Core.List.{List}
 use native.Mathlib.Omega.{arith}
@@ -11,16 +11,10 @@ use Rattle.rules.specs.Rules.{ask, orElse, firstRefusal}
 use Rattle.rules.proofs.RuleLaws.{ask-kept, else-first, else-second, each-kept}
 use Rattle.sheet.specs.Order.{kindAt, sectionCount, sketchesNumber, expressionsNumber, sectionAt, sectionsIn}
 use Rattle.sheet.specs.Rules.{countRefusal, recordsRefusal, sectionRefusal}
-use Rattle.sheet.specs.Check.{refusalIn, sheetRefusal, verdict, check}
+use Rattle.sheet.specs.Check.{refusalIn, sheetRefusal, check}
 use Rattle.sheet.specs.declared.Sections.{Sections}
 use Rattle.sheet.specs.declared.Checked.the-variants.{Accepted}
-
-verdict-accepted : (n : ℕ) (x y : Sections) → verdict n x ≡ Accepted y → (n ≡ 0) × (x ≡ y)
-verdict-accepted zero x y e = (refl, cc)
-verdict-accepted (suc n) x y e = let z : _≡_ {A = ℕ} 0 1 = cc in absurd (no z)
-  where
-    no : _≡_ {A = ℕ} 0 1 → ⊥
-    no z = omega arith
+use Rattle.sheet.proofs.VerdictLaws.{verdict-accepted}
 
 -- the answer: no refusal, and the sections where the bytes have them
 pub accepted : (s : List ℕ) (x : Sections) → check s ≡ Accepted x → (sheetRefusal s ≡ 0) × (sectionsIn s ≡ x)

@@ -5,3 +5,4 @@ pub mod AcceptedLaws
 pub mod SheetLaws
 pub mod WalkLaws
 pub mod RoomLaws
+pub mod OwnerLaws

@@ -14,16 +14,23 @@ use Rattle.sheet.specs.Rules.{sectionRefusal}
 use Rattle.sheet.specs.Check.{refusalIn, sheetRefusal, verdict, check}
 use Rattle.sheet.specs.Walk.{reached}
 use Rattle.sheet.specs.declared.Sections.{Sections}
-use Rattle.sheet.specs.declared.Checked.the-variants.{Refused}
+use Rattle.sheet.specs.declared.Checked.the-variants.{Refused, Accepted}
 use Rattle.sheet.specs.declared.order.Kind.{Kind}
 use Rattle.sheet.specs.declared.walk.Reached.{Reached}
 use Rattle.sheet.specs.declared.walk.Reached.the-variants.{Refused as Stopped, At}
 use Rattle.sheet.proofs.PlaceLaws.{startsBefore, section-next}
 use Rattle.sheet.proofs.SectionLaws.{noted}
 
+no : _≡_ {A = ℕ} 0 1 → ⊥
+no z = omega arith
+
 pub verdict-refused : (n : ℕ) (x : Sections) → (n ≡ 0 → ⊥) → Refused n ≡ verdict n x
 verdict-refused zero x h = absurd (h refl)
 verdict-refused (suc n) x h = refl
+
+pub verdict-accepted : (n : ℕ) (x y : Sections) → verdict n x ≡ Accepted y → (n ≡ 0) × (x ≡ y)
+verdict-accepted zero x y e = (refl, cc)
+verdict-accepted (suc n) x y e = let z : _≡_ {A = ℕ} 0 1 = cc in absurd (no z)
 
 -- ---- a section
 
@@ -33,9 +40,6 @@ reached-refused (suc n) m at e h = ap (λ (k : ℕ). reached k at) e
 
 pub reached-end : (n at end : ℕ) → 0 ≡ n → at ≡ end → At at ≡ reached n end
 reached-end n at end e h = ap At h ∙ ap (λ (k : ℕ). reached k end) e
-
-no : _≡_ {A = ℕ} 0 1 → ⊥
-no z = omega arith
 
 pub refused-back : (n m at : ℕ) → Stopped n ≡ reached m at → (n ≡ m) × (n ≡ 0 → ⊥)
 refused-back n zero at e = let z : _≡_ {A = ℕ} 0 1 = cc in absurd (no z)

@@ -5,6 +5,7 @@ use mathlib.Core.List.{List}
 use lib.Dec.{eqb}
 use lib.ListN.{getD}
 use Rattle.le.specs.Fields.{u16At}
+use Rattle.records.specs.Lists.{tabulateFrom, tabulate}
 use Rattle.sheet.specs.declared.Sections.{Sections}
 use Rattle.sheet.specs.declared.order.Kind.{Kind}
 use Rattle.sheet.specs.declared.order.Kind.the-variants.{Rows, Settings, Sketches, Tables, Keys, Columns, Classes, Expressions, Operands, Conjuncts}
@@ -35,6 +36,7 @@ sketchesNumber = 2
 abbrev pub expressionsNumber : ℕ
 expressionsNumber = 9
 
+-- the places of the sections' counts, in the same order
 abbrev pub sectionsOf : List ℕ → Sections
 sectionsOf starts = record {
   rows = getD starts 0 0;
@@ -79,18 +81,5 @@ sectionAt s zero = 0
 sectionAt s (suc k) = let start = sectionAt s k in recordAt (kindAt k) s start (u16At s start)
 
 unfoldable pub sectionsIn : List ℕ → Sections
-unfolding sectionAt
-sectionsIn s = record {
-  rows = sectionAt s 0;
-  settings = sectionAt s 1;
-  sketches = sectionAt s 2;
-  tables = sectionAt s 3;
-  keys = sectionAt s 4;
-  «left_columns» = sectionAt s 5;
-  «right_columns» = sectionAt s 6;
-  «left_classes» = sectionAt s 7;
-  «right_classes» = sectionAt s 8;
-  expressions = sectionAt s 9;
-  operands = sectionAt s 10;
-  conjuncts = sectionAt s 11;
-}
+unfolding tabulateFrom sectionAt
+sectionsIn s = sectionsOf (tabulate (sectionAt s) sectionCount)

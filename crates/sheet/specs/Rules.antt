@@ -61,7 +61,7 @@ unfolding recordAt
 itemsBefore s start zero = 0
 itemsBefore s start (suc i) = itemsBefore s start i + u16At s (recordAt Sketches s start i + 8)
 
--- record i of the section at `start`, which stands at `at`; the counts of the sketches and of the expressions stand at the places of their names
+-- record i, at `at`, of the section at `start`; `sketches` and `expressions` are the places of those sections' counts
 unfoldable pub recordRefusal : Kind → List ℕ → ℕ → ℕ → ℕ → ℕ → ℕ → ℕ
 unfolding rowsRefusal settingRefusal itemsBefore sketchRefusal tableRefusal keyRefusal columnRefusal classRefusal runsBefore expressionRefusal naryOf operandRefusal conjunctRefusal
 recordRefusal Rows s sketches expressions start i at = rowsRefusal s at

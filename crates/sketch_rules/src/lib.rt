@@ -1,4 +1,5 @@
-// The rules of sketches, in the order of the bytes. A refusal is the number of a rule, or 0.
+// The rules of sketches. A function named for a refusal gives the number of the first rule broken, in
+// the order of the bytes, or 0.
 ghost use mathlib.Core.Path.{_≡_};
 ghost use Prim.Native.Nat.{_<_, _^_, _*_, _+_};
 ghost use Rattle.rules.specs.Rules.{firstRefusal};

@@ -1,0 +1,37 @@
+-- When a sheet's operands are judged, its expressions and the operands' count have been. Then operand i stands in the run of the expression that `naryOf` names, whether the sheet is accepted in the end or not. Assumes nothing.
+use Prim.Native.Nat.{ℕ, _<_}
+use mathlib.Core.Path.{_≡_, sym, ap, _∙_, subst}
+use mathlib.Core.List.{List}
+use native.Mathlib.Omega.{arith}
+use lib.Dec.{eqb}
+use borrow.Author.Tests.{eqb-true}
+use Rattle.le.specs.Fields.{u16At}
+use Rattle.rules.specs.Rules.{ask}
+use Rattle.rules.proofs.RuleLaws.{ask-kept, else-second, each-kept}
+use Rattle.record_rules.specs.Fields.{whole}
+use Rattle.expression_rules.specs.Expressions.{expressionRefusal}
+use Rattle.expression_rules.specs.Operands.{expressionPlace, runsBefore, naryOf}
+use Rattle.expression_rules.proofs.RunLaws.{Holds, owner-holds}
+use Rattle.expression_rules.proofs.RoomLaws.{runs-follow}
+use Rattle.sheet.specs.Rules.{countWithin, fillRefusal, countRefusal, recordRefusal, recordsRefusal, sectionRefusal}
+use Rattle.sheet.specs.declared.order.Kind.the-variants.{Expressions, Operands}
+use Rattle.sheet.proofs.PlaceLaws.{fixed-place, expressions-fixed}
+
+module _ (s : List ℕ) (sketches x start : ℕ) where
+  expressions-kept : sectionRefusal Expressions s sketches x x ≡ 0 → (e : ℕ) → e < u16At s x → expressionRefusal s (runsBefore s x e) e (expressionPlace x e) ≡ 0
+  unfolding sectionRefusal recordRefusal
+  expressions-kept k e l =
+      ap (expressionRefusal s (runsBefore s x e) e) (sym (fixed-place Expressions 25 expressions-fixed s x e))
+      ∙ each-kept (recordsRefusal Expressions s sketches x x) (u16At s x) (else-second (countRefusal Expressions s x x) _ k) e l
+
+  runs-filled : countRefusal Operands s x start ≡ 0 → u16At s start ≡ runsBefore s x (u16At s x)
+  unfolding countRefusal fillRefusal
+  runs-filled k =
+      let n : ℕ = u16At s start in
+      let within = else-second (whole 2 s start) _ k in
+      let fill = else-second (ask (countWithin Operands n) 3) _ within in
+      eqb-true n (runsBefore s x (u16At s x)) (ask-kept (eqb n (runsBefore s x (u16At s x))) 9 (omega arith) fill)
+
+  -- the expressions' count stands at x, that of the operands at start
+  pub operand-owner : sectionRefusal Expressions s sketches x x ≡ 0 → countRefusal Operands s x start ≡ 0 → (i : ℕ) → i < u16At s start → Holds s x i (naryOf s x i)
+  operand-owner k c i l = owner-holds s x i (runs-follow s x (expressions-kept k)) (subst (λ (n : ℕ). i < n) (runs-filled c) l)
