@@ -1,18 +1,24 @@
 #!/usr/bin/env python3
 """Sheets for the program sheet_cases, made with no code of this repository.
 
-usage: python3 tests/make_sheet_cases.py > crates/sheet_cases/stdin 2> crates/sheet_cases/stdout
+usage: rust/list, which has the source's answers added and writes the whole list
 
 Writes commands of 32 bytes to standard output: kind u8, number u8, n u16, at u32, then 24 bytes of payload,
-little-endian. They work on a buffer of 65,536 bytes that starts as zeros.
+little-endian. They work on a buffer of 65,536 bytes for sheets and another for answers, which start as zeros.
 
-  1  store     the first n bytes of the payload go into the buffer at byte `at`
+  1  store     the first n bytes of the payload go into the sheets' buffer at byte `at`
   2  refused   the first `at` bytes of the buffer are a sheet that is refused with `number`
   3  accepted  the first `at` bytes are a sheet that is accepted; the payload holds the offsets of its twelve
                sections, u16 each
   4  prefixes  each proper prefix of the first `at` bytes, the empty one too, is refused with `number`
 
-Standard error gets the lines that the program has to write.
+  5  store     as 1, into the answers' buffer
+  6  join      the first `at` bytes are a sheet that is accepted; the payload holds the place of the join's answer in
+               the answers' buffer and its length, u32 each
+  7  predicate the same for the predicate of expression n
+  8  split     the same for the split of expression n
+
+This script writes the kinds 1 to 4, and rust/oracle/src/bin/list.rs those of 1 to 3 and 5 to 8.
 
 Where the expected numbers come from: each case states which number it gets and at which field, by itself or by a
 table of broken fields. `check_sheet` below is a reading of document 01, with what docs/DECISIONS.md settles, written
@@ -691,20 +697,18 @@ class Cases:
     def __init__(self):
         self.under, self.seen = {}, set()
         self.commands, self.buffer = [], bytearray(BUFFER)
-        self.tallies = {line: 0 for line in [*range(1, 11), "accepted", "prefixes", "stores"]}
 
     # -- what is claimed
 
-    def add(self, base, line, many, data, kind, number=0, payload=b""):
+    def add(self, base, data, kind, number=0, payload=b""):
         self.under.setdefault(base.data, []).append((data, kind, number, payload))
-        self.tallies[line] += many
 
     def accept(self, sheet):
         """Once for each sheet."""
         if sheet.data not in self.seen:
             self.seen.add(sheet.data)
             hold(verdict(sheet.data) == sheet.offsets(), "accepted", verdict(sheet.data))
-            self.add(sheet, "accepted", 1, sheet.data, ACCEPTED, 0, struct.pack("<12H", *sheet.offsets()))
+            self.add(sheet, sheet.data, ACCEPTED, 0, struct.pack("<12H", *sheet.offsets()))
 
     def refuse(self, base, number, place, data, *what, neighbour=None):
         """Bytes that are refused at a place, in front of which they are those of an accepted sheet: the base, or another."""
@@ -718,7 +722,7 @@ class Cases:
         hold(verdict(data) == (number, place), *what, "said", (number, place), "read", verdict(data))
         if data not in self.seen:
             self.seen.add(data)
-            self.add(base, number, 1, data, REFUSED, number)
+            self.add(base, data, REFUSED, number)
 
     def prefixes(self, number, sheet):
         """All of them are in the list. Of a long sheet every 211th is read here, and the last thousand."""
@@ -727,7 +731,7 @@ class Cases:
         for n in range(size):
             if size < 2000 or n % 211 == 0 or n + 1000 > size:
                 hold(verdict(sheet.data[:n])[0] == number, "prefix", n)
-        self.add(sheet, "prefixes", size, sheet.data, PREFIXES, number)
+        self.add(sheet, sheet.data, PREFIXES, number)
 
     # -- ways to break a sheet
 
@@ -767,7 +771,6 @@ class Cases:
                 part = part[:-1]
             self.command(STORE, 0, len(part), at, part)
             self.buffer[at:at + len(part)] = part
-            self.tallies["stores"] += 1
             at += len(part)
 
     def written(self):
@@ -778,11 +781,6 @@ class Cases:
                 hold(self.buffer[:len(data)] == data, "the buffer", kind, number, len(data))
                 self.command(kind, number, 0, len(data), payload)
         return b"".join(self.commands)
-
-    def lines(self):
-        yield from (f"refused by {n}: {self.tallies[n]} cases, 0 differ" for n in range(1, 11))
-        yield from (f"{line}: {self.tallies[line]} cases, 0 differ" for line in ("accepted", "prefixes", "stores"))
-        yield "unknown: 0 cases, 0 differ"
 
 
 # ---- accepted sheets
@@ -1470,8 +1468,6 @@ def main():
     written = cases.written()
     hold(50_000 < len(FULL.data) < 58_000 and len(written) < 600_000, len(FULL.data), len(written))
     sys.stdout.buffer.write(written)
-    for line in cases.lines():
-        print(line, file=sys.stderr)
 
 
 main()

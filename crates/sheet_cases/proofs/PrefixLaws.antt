@@ -1,12 +1,14 @@
 -- Counting prefixes goes on: those counted, and those that `differingBelow` counts below, are all. Assumes nothing.
 use Prim.Native.Nat.{ℕ, suc, _+_, _-_, _≤_, _<_}
-use mathlib.Core.Path.{_≡_}
-use mathlib.Core.Bool.{not}
+use mathlib.Core.Path.{_≡_, refl}
+use mathlib.Core.Bool.{Bool, true, false, not, _&&_}
 use mathlib.Core.List.{List}
+use borrow.Author.Tests.{leb-true}
 use native.Mathlib.Omega.{arith}
 use lib.ListN.{length, take, length-take}
 use Rattle.float.specs.Integers.{bit}
-use Rattle.sheet_cases.specs.Claims.{isRefused, differingBelow}
+use Rattle.le.specs.Fields.{u32At}
+use Rattle.sheet_cases.specs.Claims.{isRefused, differingBelow, answerFits}
 
 one-less : (i : ℕ) → 0 < i → i ≡ suc (i - 1)
 one-less i h = omega arith
@@ -29,3 +31,12 @@ below-end s number r i total h e = let f = rw (none-left i h) at e in omega arit
 -- a prefix that is there has its length
 pub whole-prefix : (n : ℕ) (s : List ℕ) → n ≤ length s → n ≡ length (take n s)
 whole-prefix n s h = let e = length-take n s in omega arith
+
+first-true : (a b : Bool) → (a && b) ≡ true → a ≡ true
+first-true true b e = refl
+first-true false b e = e
+
+-- the sheet of an answer that fits is there whole
+pub whole-sheet : (n : ℕ) (s a c : List ℕ) → n ≡ u32At c 4 → answerFits s a c ≡ true → n ≡ length (take n s)
+unfolding answerFits
+whole-sheet n s a c e h = whole-prefix n s (rw e (leb-true _ _ (first-true _ _ h)))

@@ -41,6 +41,13 @@ acceptedAs (Accepted q) c = samePlaces (placesOf q) c 8
 unfoldable pub isAccepted : List ℕ → List ℕ → Bool
 isAccepted s c = acceptedAs (check s) c
 
+abbrev pub accepts : Checked → Bool
+accepts (Refused n) = false
+accepts (Accepted q) = true
+
+unfoldable pub isSheet : List ℕ → Bool
+isSheet s = accepts (check s)
+
 -- how many of the prefixes of 0 .. n - 1 bytes are not refused with the number
 unfoldable pub differingBelow : List ℕ → ℕ → ℕ → ℕ
 differingBelow s number zero = 0
@@ -74,9 +81,23 @@ judgePrefixes s c =
     (record { line = 12; cases = u32At c 4; differ = differingBelow s (byteAt c 1) (u32At c 4) })
     unknown
 
-unfoldable pub judge : List ℕ → List ℕ → Verdict
-judge s c =
-    cond (eqb (byteAt c 0) 1) (judgeStore s c)
-    (cond (eqb (byteAt c 0) 2) (judgeRefused s c)
-    (cond (eqb (byteAt c 0) 3) (judgeAccepted s c)
-    (cond (eqb (byteAt c 0) 4) (judgePrefixes s c) unknown)))
+-- the sheet is the first u32At c 4 bytes of s, the answer the u32At c 12 bytes of a from u32At c 8 on
+unfoldable pub answerFits : List ℕ → List ℕ → List ℕ → Bool
+answerFits s a c = leb (u32At c 4) (length s) && leb (u32At c 8 + u32At c 12) (length a)
+
+-- as yet the answer is not compared: the claim that is judged is that the sheet is accepted
+unfoldable pub judgeAnswer : ℕ → List ℕ → List ℕ → List ℕ → Verdict
+judgeAnswer line s a c = cond (answerFits s a c) (oneCase line (isSheet (take (u32At c 4) s))) unknown
+
+-- by the kind, where s is the sheet's buffer and a the answer's
+unfoldable pub judge : List ℕ → List ℕ → List ℕ → Verdict
+judge s a c =
+    let kind = byteAt c 0 in
+    cond (eqb kind 1) (judgeStore s c)
+    (cond (eqb kind 2) (judgeRefused s c)
+    (cond (eqb kind 3) (judgeAccepted s c)
+    (cond (eqb kind 4) (judgePrefixes s c)
+    (cond (eqb kind 5) (judgeStore a c)
+    (cond (eqb kind 6) (judgeAnswer 14 s a c)
+    (cond (eqb kind 7) (judgeAnswer 15 s a c)
+    (cond (eqb kind 8) (judgeAnswer 16 s a c) unknown)))))))

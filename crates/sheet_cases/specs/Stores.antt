@@ -1,4 +1,4 @@
--- What a command stores in the sheet's buffer. Definitions only.
+-- What a command stores in a buffer: the sheet's, or the answer's. Definitions only.
 use Prim.Native.Nat.{ℕ, zero, suc, _+_}
 use mathlib.Core.Bool.{Bool, cond, _&&_}
 use mathlib.Core.List.{List}
@@ -15,6 +15,6 @@ copied s at c from (suc n) = copied (set s at (byteAt c from)) (at + 1) c (from 
 unfoldable pub storeFits : List ℕ → List ℕ → Bool
 storeFits s c = leb (u16At c 2) 24 && leb (u32At c 4 + u16At c 2) (length s)
 
--- the buffer after a command: only kind 1 stores
-unfoldable pub stored : List ℕ → List ℕ → List ℕ
-stored s c = cond (eqb (byteAt c 0) 1 && storeFits s c) (copied s (u32At c 4) c 8 (u16At c 2)) s
+-- the buffer after a command: only one kind stores in it
+unfoldable pub stored : ℕ → List ℕ → List ℕ → List ℕ
+stored kind s c = cond (eqb (byteAt c 0) kind && storeFits s c) (copied s (u32At c 4) c 8 (u16At c 2)) s

@@ -2,7 +2,7 @@
 ghost use mathlib.Core.Path.{_≡_};
 ghost use Prim.Native.Nat.{_≤_};
 ghost use lib.ListN.{length};
-ghost use Rattle.sheet_cases.specs.Claims.{isRefused, placesOf, samePlaces, isAccepted, differingBelow, unknown, oneCase, judgeStore, judgeRefused, judgeAccepted, judgePrefixes, judge};
+ghost use Rattle.sheet_cases.specs.Claims.{isRefused, placesOf, samePlaces, isAccepted, isSheet, differingBelow, unknown, oneCase, judgeStore, judgeRefused, judgeAccepted, judgePrefixes, answerFits, judgeAnswer, judge};
 ghost use Rattle.float.specs.Integers.{bit};
 use crate::stores::store_fits;
 use le::reads::byte_at;
@@ -13,7 +13,8 @@ use sheet::Checked;
 use sheet::Sections;
 
 // The line of the report that counts a command, its cases, and how many of them differ. The lines:
-// 0 unknown commands, 1 to 10 refused sheets by number, 11 accepted sheets, 12 prefixes, 13 stores.
+// 0 unknown commands, 1 to 10 refused sheets by number, 11 accepted sheets, 12 prefixes, 13 stores,
+// 14 joins, 15 predicates, 16 splits.
 pub struct Verdict {
     pub line: u8,
     pub cases: u64,
@@ -77,6 +78,17 @@ fn is_accepted(s: &[u8], c: &[u8]) -> bool
     match answer {
         Checked::Refused(_) => false,
         Checked::Accepted(q) => same_places(places_of(q), c),
+    }
+}
+
+// Whether the sheet is accepted.
+fn is_sheet(s: &[u8]) -> bool
+    ensures { λ r. ⌜ r ≡ isSheet (now (s .entry)) ⌝ }
+{
+    let answer = sheet::check(s);
+    match answer {
+        Checked::Refused(_) => false,
+        Checked::Accepted(_) => true,
     }
 }
 
@@ -163,22 +175,42 @@ fn judge_prefixes(s: &[u8], c: &[u8]) -> Verdict
     }
 }
 
-// The verdict on a command c, where s is the sheet's buffer.
-pub fn judge(s: &[u8], c: &[u8]) -> Verdict
-    ensures { λ r. ⌜ r ≡ judge (now (s .entry)) (now (c .entry)) ⌝ }
+// Whether the sheet and the answer of a command lie within their buffers.
+fn answer_fits(s: &[u8], a: &[u8], c: &[u8]) -> bool
+    ensures { λ r. ⌜ r ≡ answerFits (now (s .entry)) (now (a .entry)) (now (c .entry)) ⌝ }
+{
+    let n = u32_at(c, 4) as usize;
+    let at = u32_at(c, 8) as usize;
+    let size = u32_at(c, 12) as usize;
+    both(n <= s.len(), at + size <= a.len())
+}
+
+// As yet the answer is not compared: the claim that is judged is that the sheet is accepted.
+fn judge_answer(line: u8, s: &[u8], a: &[u8], c: &[u8]) -> Verdict
+    ensures { λ r. ⌜ r ≡ judgeAnswer line (now (s .entry)) (now (a .entry)) (now (c .entry)) ⌝ }
+{
+    if answer_fits(s, a, c) {
+        let n = u32_at(c, 4) as usize;
+        one_case(line, is_sheet(&s[..n]))
+    } else {
+        unknown()
+    }
+}
+
+// The verdict on a command c, where s is the sheet's buffer and a the answer's.
+pub fn judge(s: &[u8], a: &[u8], c: &[u8]) -> Verdict
+    ensures { λ r. ⌜ r ≡ judge (now (s .entry)) (now (a .entry)) (now (c .entry)) ⌝ }
 {
     let kind = byte_at(c, 0);
-    if kind == 1 {
-        return judge_store(s, c);
+    match kind {
+        1 => judge_store(s, c),
+        2 => judge_refused(s, c),
+        3 => judge_accepted(s, c),
+        4 => judge_prefixes(s, c),
+        5 => judge_store(a, c),
+        6 => judge_answer(14, s, a, c),
+        7 => judge_answer(15, s, a, c),
+        8 => judge_answer(16, s, a, c),
+        _ => unknown(),
     }
-    if kind == 2 {
-        return judge_refused(s, c);
-    }
-    if kind == 3 {
-        return judge_accepted(s, c);
-    }
-    if kind == 4 {
-        return judge_prefixes(s, c);
-    }
-    unknown()
 }

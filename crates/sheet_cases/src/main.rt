@@ -1,6 +1,7 @@
 // Replays a stored list of sheets, which standard input holds, against `sheet::check`, and writes
-// how many cases there were of each kind and how many differ.
-// `tests/make_sheet_cases.py` makes the list and describes its commands of 32 bytes.
+// how many cases there were of each kind and how many differ. Of the answers that the list has for
+// calls which are not there yet, only that their sheet is accepted is judged.
+// `rust/list` makes the list, and `tests/make_sheet_cases.py` describes its commands of 32 bytes.
 mod claims;
 mod stores;
 mod tallies;
@@ -8,25 +9,32 @@ mod tallies;
 use libc::STDIN_FILENO;
 use libc::STDOUT_FILENO;
 
-// One command: its verdict on the sheet as it stands, and then what it stores.
-fn replay_one(sheet: &mut [u8], command: &[u8], cases: &mut [u64], differ: &mut [u64]) {
-    let v = claims::judge(sheet, command);
+// One command: its verdict on the two buffers as they stand, and then what it stores.
+fn replay_one(
+    sheet: &mut [u8],
+    answer: &mut [u8],
+    command: &[u8],
+    cases: &mut [u64],
+    differ: &mut [u64],
+) {
+    let v = claims::judge(sheet, answer, command);
     tallies::raise(cases, v.line as usize, v.cases);
     tallies::raise(differ, v.line as usize, v.differ);
-    stores::store(sheet, command);
+    stores::store(1, sheet, command);
+    stores::store(5, answer, command);
 }
 
 // Replays the commands up to the first that is not there whole, and gives how many bytes of that
-// one there are. After 100,000 commands it stops and gives 32.
-fn replay(sheet: &mut [u8], cases: &mut [u64], differ: &mut [u64]) -> usize {
+// one there are. After 1,000,000 commands it stops and gives 32.
+fn replay(sheet: &mut [u8], answer: &mut [u8], cases: &mut [u64], differ: &mut [u64]) -> usize {
     let mut command = [0u8; 32];
     let mut i = 0usize;
-    while i < 100_000 {
+    while i < 1_000_000 {
         let n = io::read_full(STDIN_FILENO, &mut command);
         if n < 32 {
             return n;
         }
-        replay_one(sheet, &command, cases, differ);
+        replay_one(sheet, answer, &command, cases, differ);
         i += 1;
     }
     32
@@ -54,6 +62,9 @@ fn write_tallies(cases: &[u64], differ: &[u64]) {
     write_line(b"accepted: ", cases, differ, 11);
     write_line(b"prefixes: ", cases, differ, 12);
     write_line(b"stores: ", cases, differ, 13);
+    write_line(b"joins, answers not compared yet: ", cases, differ, 14);
+    write_line(b"predicates, answers not compared yet: ", cases, differ, 15);
+    write_line(b"splits, answers not compared yet: ", cases, differ, 16);
     write_line(b"unknown: ", cases, differ, 0);
 }
 
@@ -76,9 +87,10 @@ fn write_end(left: usize) {
 
 fn main() {
     let mut sheet = io::large_buffer();
-    let mut cases = [0u64; 14];
-    let mut differ = [0u64; 14];
-    let left = replay(&mut sheet, &mut cases, &mut differ);
+    let mut answer = io::large_buffer();
+    let mut cases = [0u64; 17];
+    let mut differ = [0u64; 17];
+    let left = replay(&mut sheet, &mut answer, &mut cases, &mut differ);
     write_end(left);
     write_tallies(&cases, &differ);
 }

@@ -1,4 +1,4 @@
-// Storing a command's bytes in the sheet's buffer.
+// Storing a command's bytes in a buffer: the sheet's, or the answer's.
 ghost use mathlib.Core.Path.{_≡_};
 ghost use Prim.Native.Nat.{_+_, _≤_, _<_, _^_};
 ghost use lib.ListN.{length};
@@ -29,10 +29,10 @@ pub fn store_fits(s: &[u8], c: &[u8]) -> bool
 }
 
 // A command of another kind, and one that does not fit, stores nothing.
-pub fn store(s: &mut [u8], c: &[u8])
-    ensures { λ _. ⌜ now (s .exit) ≡ stored (now (s .entry)) (now (c .entry)) ⌝ }
+pub fn store(kind: u8, s: &mut [u8], c: &[u8])
+    ensures { λ _. ⌜ now (s .exit) ≡ stored kind (now (s .entry)) (now (c .entry)) ⌝ }
 {
-    if byte_at(c, 0) == 1 {
+    if byte_at(c, 0) == kind {
         if store_fits(s, c) {
             copy(s, u32_at(c, 4) as usize, c, 8, u16_at(c, 2) as usize);
         }

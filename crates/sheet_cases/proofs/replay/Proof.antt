@@ -8,10 +8,10 @@ use Rattle.sheet_cases.proofs.replay.Statement.{statement}
 use Rattle.sheet_cases.proofs.replay.Tie as tie
 
 abbrev Inv-loop : tie.InvT-loop
-Inv-loop sheet₀ cases₀ differ₀ command₀ i₀ sheet cases differ command i = (i ≤ 100000) × (length sheet ≡ length sheet₀) × (length cases ≡ length cases₀) × (length differ ≡ length differ₀) × (length command ≡ 32)
+Inv-loop sheet₀ answer₀ cases₀ differ₀ command₀ i₀ sheet answer cases differ command i = (i ≤ 1000000) × (length sheet ≡ length sheet₀) × (length answer ≡ length answer₀) × (length cases ≡ length cases₀) × (length differ ≡ length differ₀) × (length command ≡ 32)
 
 abbrev μ-loop : tie.MeasureT-loop
-μ-loop sheet₀ cases₀ differ₀ command₀ i₀ sheet cases differ command i = 100000 - i
+μ-loop sheet₀ answer₀ cases₀ differ₀ command₀ i₀ sheet answer cases differ command i = 1000000 - i
 
 loop-holds : tie.Need-loop-holds Inv-loop μ-loop
 loop-holds c = search needs
@@ -31,6 +31,9 @@ same-length-2 c = search needs
 same-length-3 : tie.Need-same-length-3 Inv-loop μ-loop
 same-length-3 c = search needs
 
+same-length-4 : tie.Need-same-length-4 Inv-loop μ-loop
+same-length-4 c = search needs
+
 returns : tie.Need-returns Inv-loop μ-loop
 returns c = search needs
 
@@ -49,14 +52,17 @@ loop-less c = omega arith
 loop-again : tie.Need-loop-again Inv-loop μ-loop
 loop-again c = search needs
 
-same-length-4 : tie.Need-same-length-4 Inv-loop μ-loop
-same-length-4 c = search needs
-
 same-length-5 : tie.Need-same-length-5 Inv-loop μ-loop
 same-length-5 c = search needs
 
 same-length-6 : tie.Need-same-length-6 Inv-loop μ-loop
 same-length-6 c = search needs
+
+same-length-7 : tie.Need-same-length-7 Inv-loop μ-loop
+same-length-7 c = search needs
+
+same-length-8 : tie.Need-same-length-8 Inv-loop μ-loop
+same-length-8 c = search needs
 
 returns-2 : tie.Need-returns-2 Inv-loop μ-loop
 returns-2 c = search needs
@@ -73,13 +79,15 @@ replay-spec =
     same-length
     same-length-2
     same-length-3
+    same-length-4
     returns
     slice-aggregate-replay-one
     replay-one-requires
     add-i
     loop-less
     loop-again
-    same-length-4
     same-length-5
     same-length-6
+    same-length-7
+    same-length-8
     returns-2)

@@ -1,5 +1,5 @@
 -- `store` meets its contract: the bytes are copied where both tests hold, and the buffer is left as it was elsewhere. Assumes nothing.
-use borrow.Author.Tests.{ne-eqb}
+use borrow.Author.Tests.{eq-eqb, ne-eqb}
 use borrow.Author.Needs.{needs}
 use mathlib.Core.Path.{refl, sym, _∙_}
 use Rattle.sheet_cases.proofs.StoreLaws.{fits-room}
@@ -40,14 +40,14 @@ returns c =
     let copied = c .before .before in
     let second = copied .before .before .before .before in
     let first = second .before .before .before in
-    rw (← first .before .byte-at .ensures, first .if1 .taken, ← second .before .store-fits .ensures, second .if2 .taken, ← copied .before .before .u32-at .ensures, ← copied .before .u16-at .ensures) (copied .copy .ensures)
+    rw (← first .before .byte-at .ensures, eq-eqb _ _ (first .if1 .taken), ← second .before .store-fits .ensures, second .if2 .taken, ← copied .before .before .u32-at .ensures, ← copied .before .u16-at .ensures) (copied .copy .ensures)
 
 same-length-2 : tie.Need-same-length-2
 same-length-2 c = search needs
 
 returns-2 : tie.Need-returns-2
 unfolding stored
-returns-2 c = rw (← c .before .before .before .before .byte-at .ensures, c .before .before .before .if1 .taken, ← c .before .store-fits .ensures, c .if2 .left) refl
+returns-2 c = rw (← c .before .before .before .before .byte-at .ensures, eq-eqb _ _ (c .before .before .before .if1 .taken), ← c .before .store-fits .ensures, c .if2 .left) refl
 
 returns-3 : tie.Need-returns-3
 unfolding stored

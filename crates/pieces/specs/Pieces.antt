@@ -1,0 +1,64 @@
+-- What the functions for programs in other languages answer, in terms of the crates behind them. Definitions only.
+use Prim.Native.Nat.{ℕ}
+use mathlib.Core.Bool.{Bool, cond}
+use mathlib.Core.List.{List}
+use lib.Dec.{leb}
+use lib.ListN.{length}
+use lib.Ieee.{Float}
+use Rattle.le.specs.Fields.{onto}
+use Rattle.scalar.specs.Order.{scalarOrder}
+use Rattle.scalar.specs.Number.{scalarToF64}
+use Rattle.scalar.specs.declared.order.ScalarOrdering.{ScalarOrdering}
+use Rattle.scalar.specs.declared.order.ScalarOrdering.the-variants.{Less, Equal, Greater, Unordered}
+use Rattle.scalar_bytes.specs.Reading.{scalarAt}
+use Rattle.estimate.specs.Estimates.{derived, maxByValue, minByValue}
+use Rattle.estimate.specs.Bytes.{estimateAt, estimateBytes}
+use Rattle.estimate.specs.declared.Estimate.{Estimate}
+use Rattle.sheet.specs.Check.{check}
+use Rattle.sheet.specs.declared.Checked.{Checked}
+use Rattle.sheet.specs.declared.Checked.the-variants.{Refused, Accepted}
+
+-- ---- sheets
+
+abbrev pub refusalNumber : Checked → ℕ
+refusalNumber (Refused n) = n
+refusalNumber (Accepted q) = 0
+
+unfoldable pub piecesCheck : List ℕ → ℕ
+piecesCheck sheet = refusalNumber (check sheet)
+
+-- ---- scalars, each the first 19 bytes of a list
+
+abbrev pub orderNumber : ScalarOrdering → ℕ
+orderNumber Unordered = 0
+orderNumber Less = 1
+orderNumber Equal = 2
+orderNumber Greater = 3
+
+unfoldable pub piecesScalarOrder : List ℕ → List ℕ → ℕ
+piecesScalarOrder left right = orderNumber (scalarOrder (scalarAt left 0) (scalarAt right 0))
+
+unfoldable pub piecesHasNumber : List ℕ → Bool
+piecesHasNumber value = scalarToF64 (scalarAt value 0) .present
+
+unfoldable pub piecesNumber : List ℕ → Float
+piecesNumber value = scalarToF64 (scalarAt value 0) .number
+
+-- ---- estimates, each the first 26 bytes of a list
+
+unfoldable pub piecesMaxByValue : List ℕ → List ℕ → Estimate
+piecesMaxByValue left right = maxByValue (estimateAt left 0) (estimateAt right 0)
+
+unfoldable pub piecesMinByValue : List ℕ → List ℕ → Estimate
+piecesMinByValue left right = minByValue (estimateAt left 0) (estimateAt right 0)
+
+unfoldable pub piecesDerived : List ℕ → Estimate
+piecesDerived value = let e = estimateAt value 0 in derived (e .value) (e .lower) (e .upper)
+
+-- how many bytes are written: an estimate's, where there is room
+unfoldable pub written : List ℕ → ℕ
+written out = cond (leb 26 (length out)) 26 0
+
+-- the estimate's bytes in front, where there is room
+unfoldable pub withEstimate : Estimate → List ℕ → List ℕ
+withEstimate e out = cond (leb 26 (length out)) (onto (estimateBytes e) out) out

@@ -1,0 +1,59 @@
+//! Calls that write, with outputs of every length that matters.
+
+/// What a byte of an output holds before the call.
+const BEFORE: u8 = 0xA5;
+
+/// Whether a call that answers `expected` does so into outputs that are just long enough, longer,
+/// one byte short and empty: with room it answers the length, writes those bytes and leaves the
+/// rest; without room it answers `no_room` and leaves everything.
+pub fn agree(expected: &[u8], no_room: u64, call: impl Fn(&mut [u8]) -> u64) -> bool {
+    let length = expected.len();
+    [length, length + 7, length.saturating_sub(1), 0]
+        .into_iter()
+        .all(|size| {
+            let mut out = vec![BEFORE; size];
+            let answer = call(&mut out);
+            let mut after = vec![BEFORE; size];
+            if size >= length {
+                after[..length].copy_from_slice(expected);
+            }
+            let due = if size >= length {
+                length as u64
+            } else {
+                no_room
+            };
+            answer == due && out == after
+        })
+}
+
+#[cfg(test)]
+mod tests {
+    use super::agree;
+
+    fn honest(out: &mut [u8]) -> u64 {
+        if out.len() < 2 {
+            return 0;
+        }
+        out[..2].copy_from_slice(&[1, 2]);
+        2
+    }
+
+    #[test]
+    fn an_honest_call_agrees() {
+        assert!(agree(&[1, 2], 0, honest));
+    }
+
+    #[test]
+    fn others_do_not() {
+        assert!(!agree(&[1, 3], 0, honest));
+        assert!(!agree(&[1, 2], 12, honest));
+        assert!(!agree(&[1, 2], 0, |out| {
+            out.fill(0);
+            honest(out)
+        }));
+        assert!(!agree(&[1, 2], 0, |out| {
+            honest(out);
+            2
+        }));
+    }
+}

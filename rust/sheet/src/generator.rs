@@ -1,0 +1,78 @@
+//! Accepted sheets, one for every seed.
+//!
+//! A sheet gets its mood first: how large it is, how often a figure stands at an end of its range,
+//! whether distincts are tied, and so on. The sections are then drawn one after the other, and a
+//! few shapes that chance alone would seldom give are put in on purpose.
+
+mod classes;
+mod columns;
+mod edges;
+mod expressions;
+mod figures;
+mod keys;
+mod limits;
+mod mood;
+mod scalars;
+mod shapes;
+mod sketches;
+mod universe;
+
+use crate::random::Random;
+use crate::values::Sheet;
+use edges::Edge;
+use mood::Mood;
+use scalars::Domain;
+use universe::Universe;
+
+/// What the draws of one sheet have in common.
+struct Draw {
+    random: Random,
+    mood: Mood,
+    domain: Domain,
+    universe: Universe,
+    edges: Vec<Edge>,
+}
+
+/// The sheet of a seed.
+pub fn sheet(seed: u64) -> Sheet {
+    let mut draw = begin(seed);
+    let mut sheet = blank(&mut draw);
+    columns::fill(&mut draw, &mut sheet);
+    keys::fill(&mut draw, &mut sheet);
+    classes::fill(&mut draw, &mut sheet);
+    shapes::fill(&mut draw, &mut sheet);
+    expressions::fill(&mut draw, &mut sheet);
+    limits::fill(&mut draw, &mut sheet);
+    sheet
+}
+
+fn begin(seed: u64) -> Draw {
+    let mut random = Random::new(seed);
+    let mood = Mood::draw(&mut random);
+    let domain = Domain::draw(&mut random);
+    let universe = Universe::draw(&mut random, &mood, &domain);
+    let edges = edges::draw(&mut random, &mood, &universe);
+    Draw {
+        random,
+        mood,
+        domain,
+        universe,
+        edges,
+    }
+}
+
+/// A sheet with its rows and settings and nothing else.
+fn blank(draw: &mut Draw) -> Sheet {
+    Sheet {
+        rows: figures::both_rows(&mut draw.random, &draw.mood),
+        settings: figures::settings(&mut draw.random, &draw.mood),
+        sketches: Vec::new(),
+        tables: Vec::new(),
+        keys: Vec::new(),
+        columns: [Vec::new(), Vec::new()],
+        classes: [Vec::new(), Vec::new()],
+        expressions: Vec::new(),
+        operands: Vec::new(),
+        conjuncts: Vec::new(),
+    }
+}

@@ -1,0 +1,8 @@
+//! A join sheet: its values, its bytes read and written, and sheets drawn by seed.
+
+pub mod damage;
+pub mod generator;
+pub mod random;
+pub mod reader;
+pub mod values;
+pub mod writer;
