@@ -22,7 +22,7 @@ const NOT_NULL: &str = ".filter(|bound| !matches!(bound, ScalarValue::Null(_)))"
 const SLIPS: [(&str, &str, &[Edit]); 11] = [
     (
         "null_safe_edges_first",
-        "ordinary edges not first",
+        "null-safe edges before ordinary ones of the same distinct",
         &[
             Edit {
                 item: JOIN,
@@ -38,7 +38,7 @@ const SLIPS: [(&str, &str, &[Edit]); 11] = [
     ),
     (
         "no_union_when_disjoint",
-        "the union skipped after a disjoint edge",
+        "a disjoint edge not united",
         &[Edit {
             item: JOIN,
             path: &["domains_disjoint", "equality_match_probability", ";"],
@@ -47,7 +47,7 @@ const SLIPS: [(&str, &str, &[Edit]); 11] = [
     ),
     (
         "nested_ands_split",
-        "nested Ands split inside the join",
+        "nested Ands taken apart by the join",
         &[Edit {
             item: JOIN,
             path: &["for", "in", "conjuncts"],
@@ -56,7 +56,7 @@ const SLIPS: [(&str, &str, &[Edit]); 11] = [
     ),
     (
         "self_equality_counted",
-        "a self-equality multiplied in",
+        "an equality of a column with itself counted in",
         &[
             Edit {
                 item: JOIN,
@@ -72,7 +72,7 @@ const SLIPS: [(&str, &str, &[Edit]); 11] = [
     ),
     (
         "null_safe_not_null",
-        "null-safe columns joined into the non-null set",
+        "the columns of a null-safe equality non-null from the start",
         &[Edit {
             item: JOIN,
             path: &["filter", "!"],
@@ -81,7 +81,7 @@ const SLIPS: [(&str, &str, &[Edit]); 11] = [
     ),
     (
         "not_null_through_classes",
-        "the set walked through profile classes",
+        "non-null columns spread through profile classes",
         &[
             Edit {
                 item: JOIN,
@@ -97,7 +97,7 @@ const SLIPS: [(&str, &str, &[Edit]); 11] = [
     ),
     (
         "first_class_kept",
-        "the later profile class not overwriting",
+        "the first profile class keeps its distinct",
         &[
             Edit {
                 item: "impl EquivalenceClassState",
@@ -115,7 +115,7 @@ const SLIPS: [(&str, &str, &[Edit]); 11] = [
     ),
     (
         "whole_error",
-        "error counted whole instead of half",
+        "a frequency's whole error added, not half of it",
         &[Edit {
             item: "fn frequent_value_selectivity",
             path: &["0.5"],
@@ -124,7 +124,7 @@ const SLIPS: [(&str, &str, &[Edit]); 11] = [
     ),
     (
         "null_bound_absent",
-        "a Null bound taken as absent",
+        "a Null bound read as no bound",
         &[
             Edit {
                 item: "fn estimated_distinct_intersection",
@@ -150,7 +150,7 @@ const SLIPS: [(&str, &str, &[Edit]); 11] = [
     ),
     (
         "right_fraction",
-        "the right profile's non-null fraction for a column in both",
+        "a right column in both profiles takes the right one's fraction",
         &[
             Edit {
                 item: "fn equality_edge_estimate",
@@ -166,7 +166,7 @@ const SLIPS: [(&str, &str, &[Edit]); 11] = [
     ),
     (
         "is_null_at_the_default",
-        "IS NULL of an unprofiled column at the default",
+        "IS NULL without a profile takes the default",
         &[Edit {
             item: "fn filter_selectivity_for_predicate",
             path: &["IsNull", "0.1"],

@@ -4,6 +4,7 @@
 //! unchanged, and they are compiled here over stand-ins for the little that is not in those files
 //! ([`stand_ins`]). [`analysis`] has them as they are, [`copies`] with changes.
 
+// What is cut is not ours to mend, and a copy does not use all that stands around it.
 #![allow(dead_code, unused_imports, clippy::all)]
 
 pub mod answer;

@@ -1,6 +1,6 @@
 //! Accepted sheets, one for every seed.
 //!
-//! A sheet gets its mood first: how large it is, how often a figure stands at an end of its range,
+//! A sheet gets its style first: how large it is, how often a figure stands at an end of its range,
 //! whether distincts are tied, and so on. The sections are then drawn one after the other, and a
 //! few shapes that chance alone would seldom give are put in on purpose.
 
@@ -11,23 +11,23 @@ mod expressions;
 mod figures;
 mod keys;
 mod limits;
-mod mood;
 mod scalars;
 mod shapes;
 mod sketches;
+mod style;
 mod universe;
 
 use crate::random::Random;
 use crate::values::Sheet;
 use edges::Edge;
-use mood::Mood;
 use scalars::Domain;
+use style::Style;
 use universe::Universe;
 
 /// What the draws of one sheet have in common.
 struct Draw {
     random: Random,
-    mood: Mood,
+    style: Style,
     domain: Domain,
     universe: Universe,
     edges: Vec<Edge>,
@@ -48,13 +48,13 @@ pub fn sheet(seed: u64) -> Sheet {
 
 fn begin(seed: u64) -> Draw {
     let mut random = Random::new(seed);
-    let mood = Mood::draw(&mut random);
+    let style = Style::draw(&mut random);
     let domain = Domain::draw(&mut random);
-    let universe = Universe::draw(&mut random, &mood, &domain);
-    let edges = edges::draw(&mut random, &mood, &universe);
+    let universe = Universe::draw(&mut random, &style, &domain);
+    let edges = edges::draw(&mut random, &style, &universe);
     Draw {
         random,
-        mood,
+        style,
         domain,
         universe,
         edges,
@@ -64,8 +64,8 @@ fn begin(seed: u64) -> Draw {
 /// A sheet with its rows and settings and nothing else.
 fn blank(draw: &mut Draw) -> Sheet {
     Sheet {
-        rows: figures::both_rows(&mut draw.random, &draw.mood),
-        settings: figures::settings(&mut draw.random, &draw.mood),
+        rows: figures::both_rows(&mut draw.random, &draw.style),
+        settings: figures::settings(&mut draw.random, &draw.style),
         sketches: Vec::new(),
         tables: Vec::new(),
         keys: Vec::new(),

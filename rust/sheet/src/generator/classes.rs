@@ -2,7 +2,7 @@
 
 use super::Draw;
 use super::figures::{class_distinct, estimate};
-use super::mood::Size;
+use super::style::Size;
 use crate::values::{Class, Sheet};
 
 const CLASSES: usize = 32;
@@ -17,7 +17,7 @@ pub fn fill(draw: &mut Draw, sheet: &mut Sheet) {
 }
 
 fn count(draw: &mut Draw) -> usize {
-    match draw.mood.size {
+    match draw.style.size {
         Size::Small => draw.random.weighted(&[58, 22, 13, 7]),
         Size::Middling => draw.random.weighted(&[44, 26, 15, 9, 6]),
         Size::Large => draw.random.between(0, 12),
@@ -29,7 +29,7 @@ pub fn class(draw: &mut Draw, sheet: &Sheet, side: usize) -> Class {
     assert!(sheet.classes[side].len() < CLASSES);
     let columns = columns(draw, sheet, side);
     let near = near(sheet, &columns);
-    let distinct = class_distinct(&mut draw.random, &draw.mood, near);
+    let distinct = class_distinct(&mut draw.random, &draw.style, near);
     Class {
         distinct: estimate(&mut draw.random, distinct),
         columns,

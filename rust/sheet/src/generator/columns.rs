@@ -2,9 +2,9 @@
 
 use super::Draw;
 use super::figures::{distinct, estimate, frequency};
-use super::mood::Spread;
 use super::scalars::{Kind, kind, lookalike};
 use super::sketches;
+use super::style::Spread;
 use crate::values::{Column, Scalar, Sheet};
 
 const SKETCHES: usize = 16;
@@ -23,8 +23,8 @@ fn column(draw: &mut Draw, sheet: &mut Sheet, side: usize, number: u16) -> Colum
     let rows = sheet.rows[side].value;
     let (lower, upper) = bounds(draw, side, kind);
     let random = &mut draw.random;
-    let frequency = frequency(random, &draw.mood, rows);
-    let distinct = distinct(random, &draw.mood, frequency);
+    let frequency = frequency(random, &draw.style, rows);
+    let distinct = distinct(random, &draw.style, frequency);
     Column {
         column: number,
         base: None,
@@ -38,7 +38,7 @@ fn column(draw: &mut Draw, sheet: &mut Sheet, side: usize, number: u16) -> Colum
 
 /// The number of a sketch, which is new or another column's.
 fn sketch(draw: &mut Draw, sheet: &mut Sheet, kind: Kind, rows: f64) -> Option<u16> {
-    if !draw.random.chance(draw.mood.sketched) {
+    if !draw.random.chance(draw.style.sketched) {
         return None;
     }
     let known = sheet.sketches.len();
@@ -74,7 +74,7 @@ fn bounds(draw: &mut Draw, side: usize, kind: Kind) -> (Bound, Bound) {
 /// Two equal bounds; where all intervals reach over the middle, mostly there.
 fn point(draw: &mut Draw, kind: Kind, low: i64) -> (Bound, Bound) {
     let steps = &draw.domain.steps;
-    let number = match draw.mood.spread == Spread::Wide && draw.random.chance(75) {
+    let number = match draw.style.spread == Spread::Wide && draw.random.chance(75) {
         true => steps[(steps.len() - 1) / 2],
         false => low,
     };
@@ -95,7 +95,7 @@ fn upper_kind(draw: &mut Draw, own: Kind) -> Kind {
 fn interval(draw: &mut Draw, side: usize) -> (i64, i64) {
     let last = draw.domain.steps.len() - 1;
     let random = &mut draw.random;
-    let (low, high) = match draw.mood.spread {
+    let (low, high) = match draw.style.spread {
         Spread::Wide => (random.below(last / 2 + 1), random.between(last / 2, last)),
         Spread::Free => pair(random.between(0, last), random.between(0, last)),
         Spread::Sided { left_below } => {

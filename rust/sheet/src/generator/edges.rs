@@ -1,6 +1,6 @@
 //! The equalities between columns that stand as conjuncts of their own.
 
-use super::mood::{Mood, Size};
+use super::style::{Size, Style};
 use super::universe::Universe;
 use crate::random::Random;
 
@@ -33,35 +33,35 @@ impl Edge {
     }
 }
 
-pub fn draw(random: &mut Random, mood: &Mood, universe: &Universe) -> Vec<Edge> {
+pub fn draw(random: &mut Random, style: &Style, universe: &Universe) -> Vec<Edge> {
     let mut edges: Vec<Edge> = Vec::new();
-    for _ in 0..count(random, mood) {
+    for _ in 0..count(random, style) {
         let edge = match edges.is_empty() && random.chance(90) {
             true => ordinary(random, universe),
-            false => next(random, mood, universe, &edges),
+            false => next(random, style, universe, &edges),
         };
         edges.push(edge);
     }
-    arrange(random, mood, &mut edges);
+    arrange(random, style, &mut edges);
     edges
 }
 
-fn count(random: &mut Random, mood: &Mood) -> usize {
-    let most = match mood.size {
+fn count(random: &mut Random, style: &Style) -> usize {
+    let most = match style.size {
         Size::Small => random.weighted(&[5, 38, 30, 17, 10]),
         Size::Middling => random.weighted(&[4, 24, 26, 20, 14, 8, 4]),
         Size::Large => random.between(1, 30),
     };
-    match mood.tied.is_empty() {
+    match style.tied.is_empty() {
         true => most,
         false => most.max(2),
     }
 }
 
 /// Puts the null-safe ones first, or last, or all in any order.
-fn arrange(random: &mut Random, mood: &Mood, edges: &mut [Edge]) {
+fn arrange(random: &mut Random, style: &Style, edges: &mut [Edge]) {
     random.shuffle(edges);
-    let null_safe_first = if mood.tied.is_empty() { 25 } else { 75 };
+    let null_safe_first = if style.tied.is_empty() { 25 } else { 75 };
     match random.weighted(&[60, null_safe_first, 10]) {
         0 => {}
         1 => edges.sort_by_key(|edge| !edge.null_safe),
@@ -78,8 +78,8 @@ fn ordinary(random: &mut Random, universe: &Universe) -> Edge {
     turn(random, edge)
 }
 
-fn next(random: &mut Random, mood: &Mood, universe: &Universe, edges: &[Edge]) -> Edge {
-    let apart_too = if mood.tied.is_empty() { 12 } else { 80 };
+fn next(random: &mut Random, style: &Style, universe: &Universe, edges: &[Edge]) -> Edge {
+    let apart_too = if style.tied.is_empty() { 12 } else { 80 };
     let edge = match random.weighted(&[26, 20, 8, 7, 7, 12, 6, 7, apart_too]) {
         0 => cross(random, universe),
         1 => with_shared(random, universe),
@@ -92,7 +92,7 @@ fn next(random: &mut Random, mood: &Mood, universe: &Universe, edges: &[Edge]) -
         _ => apart(random, universe, edges),
     };
     let edge = Edge {
-        null_safe: random.chance(mood.null_safe),
+        null_safe: random.chance(style.null_safe),
         ..edge
     };
     turn(random, edge)

@@ -5,8 +5,8 @@
 
 use super::Draw;
 use super::edges::Edge;
-use super::mood::Size;
 use super::scalars;
+use super::style::Size;
 use crate::values::{Column, Expression, Scalar, Sheet};
 
 pub const EXPRESSIONS: usize = 256;
@@ -38,7 +38,7 @@ pub fn fill(draw: &mut Draw, sheet: &mut Sheet) {
 /// Conjuncts as they were drawn, or turned round, or mixed. The edges were put into an order of
 /// their own, which is kept more often where distincts are tied.
 fn order(draw: &mut Draw, mut conjuncts: Vec<u16>) -> Vec<u16> {
-    let weights = match draw.mood.tied.is_empty() {
+    let weights = match draw.style.tied.is_empty() {
         true => [50, 20, 30],
         false => [80, 10, 10],
     };
@@ -124,7 +124,7 @@ impl<'a> Builder<'a> {
 
     fn residual_count(&mut self) -> usize {
         let random = &mut self.draw.random;
-        match self.draw.mood.size {
+        match self.draw.style.size {
             Size::Small => random.weighted(&[18, 45, 23, 10, 4]),
             Size::Middling => random.weighted(&[12, 38, 25, 14, 7, 4]),
             Size::Large => random.between(0, 20),
@@ -140,7 +140,7 @@ impl<'a> Builder<'a> {
 
     /// Expressions that no conjunct names.
     fn strays(&mut self) {
-        let count = match self.draw.mood.size {
+        let count = match self.draw.style.size {
             Size::Large => self.draw.random.between(0, 25),
             _ => self.draw.random.weighted(&[62, 20, 12, 6]),
         };

@@ -1,6 +1,6 @@
 //! Rows, frequencies, distincts and settings.
 
-use super::mood::Mood;
+use super::style::Style;
 use crate::random::Random;
 use crate::values::Estimate;
 
@@ -42,8 +42,8 @@ fn special(random: &mut Random) -> f64 {
     ])
 }
 
-fn mostly(random: &mut Random, mood: &Mood, value: f64) -> f64 {
-    match random.chance(mood.special) {
+fn mostly(random: &mut Random, style: &Style, value: f64) -> f64 {
+    match random.chance(style.special) {
         true => special(random),
         false => figure(value),
     }
@@ -93,27 +93,27 @@ fn loose(random: &mut Random, value: f64) -> f64 {
 }
 
 /// The rows of both sides, each with its bounds.
-pub fn both_rows(random: &mut Random, mood: &Mood) -> [Estimate; 2] {
+pub fn both_rows(random: &mut Random, style: &Style) -> [Estimate; 2] {
     let few = random.chance(3);
     [0, 1].map(|_| match few {
         true => {
             let value = random.pick(&[SMALLEST, 0.001, 0.5, 0.75, 0.9]);
             estimate(random, value)
         }
-        false => rows_estimate(random, mood),
+        false => rows_estimate(random, style),
     })
 }
 
-fn rows_estimate(random: &mut Random, mood: &Mood) -> Estimate {
-    let value = rows(random, mood);
+fn rows_estimate(random: &mut Random, style: &Style) -> Estimate {
+    let value = rows(random, style);
     let mut estimate = estimate(random, value);
-    if mood.catalogued && random.chance(92) {
+    if style.catalogued && random.chance(92) {
         estimate.source = CATALOG;
     }
     estimate
 }
 
-fn rows(random: &mut Random, mood: &Mood) -> f64 {
+fn rows(random: &mut Random, style: &Style) -> f64 {
     let value = match random.weighted(&[76, 3, 4, 5, 12]) {
         0 => usual_rows(random),
         1 => 0.0,
@@ -122,7 +122,7 @@ fn rows(random: &mut Random, mood: &Mood) -> f64 {
         _ => usual_rows(random) * (0.5 + random.unit()),
     };
     // The catalog counts whole rows.
-    match mood.catalogued && value < MOST as f64 {
+    match style.catalogued && value < MOST as f64 {
         true => value.ceil(),
         false => figure(value),
     }
@@ -138,8 +138,8 @@ fn usual_rows(random: &mut Random) -> f64 {
 }
 
 /// How many rows have a value in a column.
-pub fn frequency(random: &mut Random, mood: &Mood, rows: f64) -> f64 {
-    let value = if !random.chance(mood.nullable) {
+pub fn frequency(random: &mut Random, style: &Style, rows: f64) -> f64 {
+    let value = if !random.chance(style.nullable) {
         rows
     } else {
         match random.weighted(&[78, 10, 2, 10]) {
@@ -150,13 +150,13 @@ pub fn frequency(random: &mut Random, mood: &Mood, rows: f64) -> f64 {
         }
     };
     let value = mostly_whole(random, value);
-    mostly(random, mood, value)
+    mostly(random, style, value)
 }
 
 /// How many different values a column has.
-pub fn distinct(random: &mut Random, mood: &Mood, frequency: f64) -> f64 {
-    if !mood.tied.is_empty() && random.chance(92) {
-        return random.pick(&mood.tied);
+pub fn distinct(random: &mut Random, style: &Style, frequency: f64) -> f64 {
+    if !style.tied.is_empty() && random.chance(92) {
+        return random.pick(&style.tied);
     }
     let value = match random.weighted(&[27, 35, 6, 7, 9, 5, 1, 10]) {
         0 => mostly_whole_share(random, frequency),
@@ -168,7 +168,7 @@ pub fn distinct(random: &mut Random, mood: &Mood, frequency: f64) -> f64 {
         6 => 0.0,
         _ => (1_u64 << random.below(7)) as f64,
     };
-    mostly(random, mood, value)
+    mostly(random, style, value)
 }
 
 fn mostly_whole_share(random: &mut Random, frequency: f64) -> f64 {
@@ -177,9 +177,9 @@ fn mostly_whole_share(random: &mut Random, frequency: f64) -> f64 {
 }
 
 /// The distinct of a class, now larger and now smaller than those of its columns.
-pub fn class_distinct(random: &mut Random, mood: &Mood, near: f64) -> f64 {
-    if !mood.tied.is_empty() && random.chance(88) {
-        return random.pick(&mood.tied);
+pub fn class_distinct(random: &mut Random, style: &Style, near: f64) -> f64 {
+    if !style.tied.is_empty() && random.chance(88) {
+        return random.pick(&style.tied);
     }
     let value = match random.weighted(&[25, 25, 15, 35]) {
         0 => near * share(random),
@@ -188,10 +188,10 @@ pub fn class_distinct(random: &mut Random, mood: &Mood, near: f64) -> f64 {
         _ => random.between(1, 60) as f64,
     };
     let value = mostly_whole(random, value);
-    mostly(random, mood, value)
+    mostly(random, style, value)
 }
 
-pub fn settings(random: &mut Random, mood: &Mood) -> [f64; 5] {
+pub fn settings(random: &mut Random, style: &Style) -> [f64; 5] {
     let mut settings = DEFAULTS;
     if random.chance(60) {
         for place in 0..3 {
@@ -202,8 +202,8 @@ pub fn settings(random: &mut Random, mood: &Mood) -> [f64; 5] {
     if random.chance(60) {
         settings[4] = assumption(random, DEFAULTS[4]);
     }
-    if !mood.tied.is_empty() && random.chance(40) {
-        settings[4] = mood.tied[0];
+    if !style.tied.is_empty() && random.chance(40) {
+        settings[4] = style.tied[0];
     }
     settings
 }

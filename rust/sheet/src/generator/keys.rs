@@ -29,7 +29,7 @@ fn labels(random: &mut Random) -> Vec<u16> {
 }
 
 fn bases(draw: &mut Draw, sheet: &mut Sheet, labels: &[Vec<u16>; 2]) {
-    let rate = match draw.mood.catalogued {
+    let rate = match draw.style.catalogued {
         true => 92,
         false => 60,
     };
@@ -65,7 +65,7 @@ fn share_bases(draw: &mut Draw, sheet: &mut Sheet) {
 }
 
 fn tables(draw: &mut Draw, sheet: &mut Sheet, labels: &[Vec<u16>; 2]) {
-    let rate = match draw.mood.catalogued {
+    let rate = match draw.style.catalogued {
         true => 90,
         false => 60,
     };

@@ -16,7 +16,7 @@ const CLASSES: usize = 32;
 const COLUMNS: u16 = 128;
 
 pub fn fill(draw: &mut Draw, sheet: &mut Sheet) {
-    let limits = draw.mood.limits;
+    let limits = draw.style.limits;
     if limits.sketches {
         fill_sketches(draw, sheet);
     }

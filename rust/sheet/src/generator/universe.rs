@@ -1,7 +1,7 @@
 //! The columns that a sheet speaks of, and the profiles in which they stand.
 
-use super::mood::{Mood, Size};
 use super::scalars::{Domain, Kind};
+use super::style::{Size, Style};
 use crate::random::Random;
 
 /// Column numbers by the profiles that have them.
@@ -17,8 +17,8 @@ pub struct Universe {
 const NUMBERS: usize = 128;
 
 impl Universe {
-    pub fn draw(random: &mut Random, mood: &Mood, domain: &Domain) -> Self {
-        let [left, right] = sides(random, mood);
+    pub fn draw(random: &mut Random, style: &Style, domain: &Domain) -> Self {
+        let [left, right] = sides(random, style);
         let both = shared(random, left, right);
         let apart = left + right - both;
         let neither = neither(random).min(NUMBERS - apart);
@@ -77,12 +77,12 @@ impl Universe {
 }
 
 /// How many columns each profile has.
-fn sides(random: &mut Random, mood: &Mood) -> [usize; 2] {
+fn sides(random: &mut Random, style: &Style) -> [usize; 2] {
     // Tied edges need columns of their own.
-    let least = if mood.tied.is_empty() { 1 } else { 3 };
-    let mut sides = [0, 1].map(|side| match mood.limits.columns[side] {
+    let least = if style.tied.is_empty() { 1 } else { 3 };
+    let mut sides = [0, 1].map(|side| match style.limits.columns[side] {
         true => 64,
-        false => side_size(random, mood.size).max(least),
+        false => side_size(random, style.size).max(least),
     });
     if random.chance(2) {
         sides[random.below(2)] = 0;

@@ -36,7 +36,7 @@ pub struct Limits {
 }
 
 #[derive(Debug, Clone)]
-pub struct Mood {
+pub struct Style {
     pub size: Size,
     pub limits: Limits,
     /// In so many cases of a hundred a figure stands at an end of its range.
@@ -54,14 +54,14 @@ pub struct Mood {
     pub nullable: usize,
 }
 
-impl Mood {
+impl Style {
     pub fn draw(random: &mut Random) -> Self {
         let tied = tied(random);
         let null_safe = match tied.is_empty() {
             true => [0, 25, 50, 100][random.weighted(&[22, 40, 28, 10])],
             false => 50,
         };
-        Mood {
+        Style {
             size: size(random),
             limits: limits(random),
             special: [0, 1, 10][random.weighted(&[60, 28, 12])],
