@@ -59,6 +59,7 @@ mod tests {
     #[test]
     fn worked() {
         assert_eq!(power(0.25, 2.5), 0.03125);
+        assert_eq!(0.25_f64.powf(2.5), 0.03125);
         assert_eq!(power(1.0, 1e300), 1.0);
         assert_eq!(power(0.999, f64::INFINITY), 0.0);
         assert_eq!(power(0.5, 10.0), 2f64.powi(-10));

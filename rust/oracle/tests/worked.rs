@@ -3,7 +3,8 @@
 
 use oracle::answer::{Answers, predicate_bytes, split_bytes};
 use sheet::reader::read;
-use sheet::values::{Class, Column, Estimate, Expression, Scalar, Sheet};
+use sheet::samples::{self, empty, from_catalog};
+use sheet::values::{Class, Column, Expression, Scalar, Sheet};
 use sheet::writer::write;
 
 const EQ: u8 = 0;
@@ -11,39 +12,12 @@ const IS_NOT_DISTINCT_FROM: u8 = 1;
 const AND: u8 = 0;
 const OR: u8 = 1;
 
-fn known(value: f64) -> Estimate {
-    Estimate {
-        source: 1,
-        value,
-        lower: None,
-        upper: None,
-    }
-}
-
-fn column(column: u16, frequency: f64, distinct: f64) -> Column {
+/// A column's profile with nothing but its frequency and distinct.
+fn column(number: u16, frequency: f64, distinct: f64) -> Column {
     Column {
-        column,
-        base: None,
-        lower: None,
-        upper: None,
-        frequency: known(frequency),
-        distinct: known(distinct),
-        sketch: None,
-    }
-}
-
-fn empty() -> Sheet {
-    Sheet {
-        rows: [known(100.0), known(50.0)],
-        settings: [0.1, 0.25, 0.33, 1000.0, 100.0],
-        sketches: vec![],
-        tables: vec![],
-        keys: vec![],
-        columns: [vec![], vec![]],
-        classes: [vec![], vec![]],
-        expressions: vec![],
-        operands: vec![],
-        conjuncts: vec![],
+        frequency: from_catalog(frequency),
+        distinct: from_catalog(distinct),
+        ..samples::column(number)
     }
 }
 
@@ -94,7 +68,7 @@ fn an_equality() {
         assert_eq!(answers.join.selectivity.value, 0.04);
         assert_eq!(answers.join.matching.value, 1.0);
         let block = Class {
-            distinct: known(10.0),
+            distinct: from_catalog(10.0),
             columns: vec![1, 2],
         };
         assert_eq!(answers.join.classes, [block]);
@@ -251,7 +225,7 @@ fn limits() {
     assert_eq!(read(&write(&sheet)).map(|_| ()).unwrap_err().number, 3);
     sheet.conjuncts.clear();
     sheet.classes[0].push(Class {
-        distinct: known(1.0),
+        distinct: from_catalog(1.0),
         columns: vec![1],
     });
     assert_eq!(read(&write(&sheet)).map(|_| ()).unwrap_err().number, 3);

@@ -4,5 +4,6 @@ pub mod damage;
 pub mod generator;
 pub mod random;
 pub mod reader;
+pub mod samples;
 pub mod values;
 pub mod writer;

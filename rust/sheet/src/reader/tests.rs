@@ -1,6 +1,7 @@
 use super::*;
+use crate::samples;
 use crate::values::{Field, Holds};
-use crate::writer::{fields, samples, scalar_bytes, write};
+use crate::writer::{fields, scalar_bytes, write};
 
 /// A field by its section, record, item and name.
 type Name = (Section, Option<usize>, Option<usize>, &'static str);
@@ -269,7 +270,7 @@ fn classes_have_2_to_128_columns() {
         let mut sheet = samples::empty();
         for columns in [2, 3, 127, 128] {
             sheet.classes[side] = vec![Class {
-                distinct: samples::exactly(1.0),
+                distinct: samples::from_catalog(1.0),
                 columns: (0..columns).collect(),
             }];
             accepted(&sheet);

@@ -1,4 +1,5 @@
 use super::*;
+use crate::samples;
 
 fn padded(start: &[u8]) -> [u8; 19] {
     let mut out = [0; 19];
@@ -45,7 +46,7 @@ fn estimates_have_their_bytes() {
     let one = 1f64.to_le_bytes();
     let two = 2f64.to_le_bytes();
     let none = [0; 8];
-    let mut estimate = samples::exactly(1.0);
+    let mut estimate = samples::from_catalog(1.0);
     assert_eq!(
         estimate_bytes(&estimate)[..],
         [&[1, 0][..], &one, &none, &none].concat()
