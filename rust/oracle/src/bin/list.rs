@@ -15,9 +15,9 @@ const SEEDS: u64 = 30_000;
 const LONGEST: usize = 3_000;
 const LONG: usize = 30_000;
 const LONG_SHEETS: usize = 2;
-/// Sheets that are listed, at least.
+/// At least so many accepted sheets are listed.
 const ACCEPTED: usize = 420;
-/// How many listed sheets reach each block that one can reach, and show each slip.
+/// At least so many listed sheets reach each block that these seeds reach, and show each slip.
 const TIMES: usize = 4;
 /// How many listed sheets are refused with each number but 1.
 const REFUSED: usize = 8;
