@@ -1,12 +1,14 @@
--- Counting prefixes goes on: those counted, and those that `differingBelow` counts below, are all. Assumes nothing.
+-- Prefixes: counting them goes on, as those counted and those that `differingBelow` counts below are all; and one that
+-- is there has its length. Assumes nothing.
 use Prim.Native.Nat.{ℕ, suc, _+_, _-_, _≤_, _<_}
-use mathlib.Core.Path.{_≡_, refl}
-use mathlib.Core.Bool.{Bool, true, false, not, _&&_}
+use mathlib.Core.Path.{_≡_}
+use mathlib.Core.Bool.{true, not}
 use mathlib.Core.List.{List}
 use borrow.Author.Tests.{leb-true}
 use native.Mathlib.Omega.{arith}
 use lib.ListN.{length, take, length-take}
 use Rattle.float.specs.Integers.{bit}
+use Rattle.rules.proofs.RuleLaws.{both-first}
 use Rattle.le.specs.Fields.{u32At}
 use Rattle.sheet_cases.specs.Claims.{isRefused, differingBelow, answerFits}
 
@@ -32,11 +34,7 @@ below-end s number r i total h e = let f = rw (none-left i h) at e in omega arit
 pub whole-prefix : (n : ℕ) (s : List ℕ) → n ≤ length s → n ≡ length (take n s)
 whole-prefix n s h = let e = length-take n s in omega arith
 
-first-true : (a b : Bool) → (a && b) ≡ true → a ≡ true
-first-true true b e = refl
-first-true false b e = e
-
 -- the sheet of an answer that fits is there whole
 pub whole-sheet : (n : ℕ) (s a c : List ℕ) → n ≡ u32At c 4 → answerFits s a c ≡ true → n ≡ length (take n s)
 unfolding answerFits
-whole-sheet n s a c e h = whole-prefix n s (rw e (leb-true _ _ (first-true _ _ h)))
+whole-sheet n s a c e h = whole-prefix n s (rw e (leb-true _ _ (both-first _ _ h)))

@@ -1,13 +1,14 @@
 -- Copying goes on: the bytes that are left to copy from i on give what all of them give. Assumes nothing.
 use Prim.Native.Nat.{ℕ, suc, _+_, _-_, _≤_, _<_}
 use mathlib.Core.Path.{_≡_, refl}
-use mathlib.Core.Bool.{Bool, true, false, _&&_, false≢true}
+use mathlib.Core.Bool.{true}
 use mathlib.Core.List.{List}
 use borrow.Author.Tests.{leb-true}
 use native.Mathlib.Omega.{arith}
 use lib.Dec.{leb}
 use lib.ListN.{length, set}
 use Rattle.le.specs.Fields.{byteAt, u16At, u32At}
+use Rattle.rules.proofs.RuleLaws.{both-second}
 use Rattle.sheet_cases.specs.Stores.{copied, storeFits}
 
 left-all : (n : ℕ) → n - 0 ≡ n
@@ -37,11 +38,7 @@ pub copied-end : (s c total : List ℕ) (at from i n : ℕ) → n ≤ i → copi
 unfolding copied
 copied-end s c total at from i n h e = rw (left-none n i h) at e
 
-second-true : (a b : Bool) → (a && b) ≡ true → b ≡ true
-second-true true b e = e
-second-true false b e = absurd (false≢true e)
-
 -- what fits ends within the buffer
 pub fits-room : (s c : List ℕ) → storeFits s c ≡ true → u32At c 4 + u16At c 2 ≤ length s
 unfolding storeFits
-fits-room s c e = leb-true _ _ (second-true (leb (u16At c 2) 24) _ e)
+fits-room s c e = leb-true _ _ (both-second (leb (u16At c 2) 24) _ e)

@@ -1,6 +1,9 @@
 //! The proved library's functions, called through its C names.
 
 mod c {
+    pub type Merge =
+        unsafe extern "C" fn(*const u8, usize, *const u8, usize, *mut u8, usize) -> u64;
+
     unsafe extern "C" {
         pub fn pieces_check(sheet: *const u8, length: usize) -> u64;
         pub fn pieces_scalar_order(
@@ -59,10 +62,9 @@ pub fn scalar_to_f64(value: &[u8]) -> Option<f64> {
     has.then_some(number)
 }
 
-/// The bytes written, 0 where `out` has no room.
-pub fn max_by_value(left: &[u8], right: &[u8], out: &mut [u8]) -> u64 {
+fn merged(merge: c::Merge, left: &[u8], right: &[u8], out: &mut [u8]) -> u64 {
     unsafe {
-        c::pieces_max_by_value(
+        merge(
             left.as_ptr(),
             left.len(),
             right.as_ptr(),
@@ -74,17 +76,13 @@ pub fn max_by_value(left: &[u8], right: &[u8], out: &mut [u8]) -> u64 {
 }
 
 /// The bytes written, 0 where `out` has no room.
+pub fn max_by_value(left: &[u8], right: &[u8], out: &mut [u8]) -> u64 {
+    merged(c::pieces_max_by_value, left, right, out)
+}
+
+/// The bytes written, 0 where `out` has no room.
 pub fn min_by_value(left: &[u8], right: &[u8], out: &mut [u8]) -> u64 {
-    unsafe {
-        c::pieces_min_by_value(
-            left.as_ptr(),
-            left.len(),
-            right.as_ptr(),
-            right.len(),
-            out.as_mut_ptr(),
-            out.len(),
-        )
-    }
+    merged(c::pieces_min_by_value, left, right, out)
 }
 
 /// The bytes written, 0 where `out` has no room.

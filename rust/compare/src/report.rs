@@ -202,9 +202,10 @@ impl Report {
         largest.note(distance, self.seed);
     }
 
-    /// Whether nothing differs and no distance is too large.
+    /// Whether something was compared, nothing differs and no distance is too large.
     pub fn passes(&self) -> bool {
-        self.near.distance <= ALLOWED && self.differences.is_empty()
+        let compared = !self.compared.is_empty();
+        compared && self.differences.is_empty() && self.near.distance <= ALLOWED
     }
 
     fn print_blocks(&self) {

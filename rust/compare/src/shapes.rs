@@ -1,5 +1,6 @@
 //! Shapes of sheets that are counted, so that one which is never drawn is seen.
 
+use sheet::limits::{ALL_ITEMS, CLASS_COLUMNS, most};
 use sheet::values::{Expression, Scalar, Section, Sheet};
 
 fn has_column(sheet: &Sheet, side: usize, column: u16) -> bool {
@@ -63,18 +64,6 @@ fn edge_shapes(sheet: &Sheet) -> Vec<String> {
     shapes
 }
 
-fn limit(section: Section) -> usize {
-    match section {
-        Section::Rows => 2,
-        Section::Settings => 5,
-        Section::Sketches => 16,
-        Section::LeftClasses | Section::RightClasses => 32,
-        Section::Expressions => 256,
-        Section::Operands => 512,
-        _ => 64,
-    }
-}
-
 fn length(sheet: &Sheet, section: Section) -> usize {
     match section {
         Section::Rows => sheet.rows.len(),
@@ -96,7 +85,7 @@ fn limit_shapes(sheet: &Sheet) -> Vec<String> {
     let varying = &sheet::values::SECTIONS[2..];
     let at_limit = varying
         .iter()
-        .filter(|section| length(sheet, **section) == limit(**section));
+        .filter(|section| length(sheet, **section) == most(**section));
     let mut shapes: Vec<String> = at_limit
         .map(|section| format!("at its limit: {section:?}"))
         .collect();
@@ -105,7 +94,7 @@ fn limit_shapes(sheet: &Sheet) -> Vec<String> {
         .iter()
         .map(|sketch| sketch.items.len())
         .sum::<usize>()
-        == 512
+        == ALL_ITEMS
     {
         shapes.push("at its limit: all sketches' items".to_string());
     }
@@ -113,7 +102,7 @@ fn limit_shapes(sheet: &Sheet) -> Vec<String> {
         .classes
         .iter()
         .flatten()
-        .any(|class| class.columns.len() == 128)
+        .any(|class| class.columns.len() == *CLASS_COLUMNS.end())
     {
         shapes.push("at its limit: a class's columns".to_string());
     }

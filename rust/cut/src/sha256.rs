@@ -1,6 +1,7 @@
 //! SHA-256 (FIPS 180-4).
 
-/// The first 32 bits behind the point of the root of the first 64 primes; `power` says which root.
+/// The first 32 bits behind the point of the roots of the first primes; a power of 2 is the square
+/// root, and 3 the cube root.
 fn prime_roots(count: usize, power: i32) -> Vec<u32> {
     let mut primes: Vec<u64> = Vec::new();
     let mut n = 2;

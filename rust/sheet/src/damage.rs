@@ -23,6 +23,19 @@ struct Copy {
 /// Does its damage if the sheet has the place for it, and says whether it did.
 type Fault = fn(&mut Copy) -> bool;
 
+/// Floats that stand nowhere in a sheet.
+const NOWHERE: [f64; 9] = [
+    -0.0,
+    f64::NAN,
+    -f64::NAN,
+    f64::INFINITY,
+    f64::NEG_INFINITY,
+    f64::from_bits(1),
+    -f64::from_bits(1),
+    f64::MIN_POSITIVE,
+    f64::MAX,
+];
+
 /// Keeps the draws of a copy apart from those of the sheet of the same seed.
 const SALT: u64 = 0x6461_6d61_6765_0001;
 

@@ -9,8 +9,8 @@ mod columns;
 mod edges;
 mod expressions;
 mod figures;
+mod full;
 mod keys;
-mod limits;
 mod scalars;
 mod shapes;
 mod sketches;
@@ -42,7 +42,7 @@ pub fn sheet(seed: u64) -> Sheet {
     classes::fill(&mut draw, &mut sheet);
     shapes::fill(&mut draw, &mut sheet);
     expressions::fill(&mut draw, &mut sheet);
-    limits::fill(&mut draw, &mut sheet);
+    full::fill(&mut draw, &mut sheet);
     sheet
 }
 

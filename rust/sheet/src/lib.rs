@@ -2,6 +2,7 @@
 
 pub mod damage;
 pub mod generator;
+pub mod limits;
 pub mod random;
 pub mod reader;
 pub mod samples;

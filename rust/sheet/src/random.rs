@@ -40,6 +40,15 @@ impl Random {
         from[self.below(from.len())]
     }
 
+    /// One of the values of two lists, which are not both empty.
+    pub fn pick_of_both<T: Copy>(&mut self, one: &[T], other: &[T]) -> T {
+        let place = self.below(one.len() + other.len());
+        match place < one.len() {
+            true => one[place],
+            false => other[place - one.len()],
+        }
+    }
+
     /// One of the values, if there are any.
     pub fn pick_any<T: Copy>(&mut self, from: &[T]) -> Option<T> {
         if from.is_empty() {

@@ -1,26 +1,15 @@
 //! Reads a sheet's bytes, or says by number and place why they are no sheet.
 
-use std::ops::RangeInclusive;
-
+use crate::limits::{
+    ALL_ITEMS, CLASS_COLUMNS, COLUMNS, LARGEST, LARGEST_FLOAT, LONGEST, MOST, NONE, SKETCH_ITEMS,
+    SMALLEST, SMALLEST_FLOAT, counts,
+};
 use crate::values::{
     Class, Column, Estimate, Expression, Key, Scalar, Section, Sheet, Sketch, SketchItem, Table,
 };
 use crate::writer::{
-    DISTINCT_NAMES, ESTIMATE_SIZE, EstimateNames, FREQUENCY_NAMES, NONE, PLAIN_NAMES, Place,
-    SCALAR_SIZE,
+    DISTINCT_NAMES, ESTIMATE_SIZE, EstimateNames, FREQUENCY_NAMES, PLAIN_NAMES, Place, SCALAR_SIZE,
 };
-
-/// The most bytes that a sheet may have.
-const MAX_LENGTH: usize = 65_535;
-
-/// The most items that all sketches may have together.
-const MAX_SKETCH_ITEMS: u16 = 512;
-
-/// Columns have the numbers below this one.
-const COLUMN_END: u16 = 128;
-
-/// The largest whole figure.
-const MAX_WHOLE: u64 = 1 << 53;
 
 /// Stands for a number of rows that is not known.
 const UNKNOWN_ROWS: u64 = u64::MAX;
@@ -57,7 +46,7 @@ pub struct Read {
 
 /// Reads a whole sheet. The first broken rule, in the order of the bytes, is the one that is told.
 pub fn read(bytes: &[u8]) -> Result<Read, Refusal> {
-    if bytes.len() > MAX_LENGTH {
+    if bytes.len() > LONGEST {
         return Err(sheet_refusal(1, bytes.len(), "length"));
     }
     let mut input = Input {
@@ -193,7 +182,7 @@ impl Part<'_> {
 
     /// A u64 figure.
     fn whole(&mut self, name: &'static str) -> Result<u64, Refusal> {
-        let found = self.u64(name)?.rule(4, |whole| whole <= MAX_WHOLE)?;
+        let found = self.u64(name)?.rule(4, |whole| whole <= MOST)?;
         Ok(found.value)
     }
 
@@ -237,28 +226,23 @@ impl Part<'_> {
     }
 }
 
-/// Two to a power from -1022 to 1023.
-const fn power_of_two(exponent: i32) -> f64 {
-    f64::from_bits(((1023 + exponent) as u64) << 52)
-}
-
 fn is_plus_zero(value: f64) -> bool {
     value.to_bits() == 0
 }
 
 /// Whether an estimate, or one of the last two settings, may have this figure.
 fn is_figure(value: f64) -> bool {
-    is_plus_zero(value) || (power_of_two(-64)..=power_of_two(64)).contains(&value)
+    is_plus_zero(value) || (SMALLEST..=LARGEST).contains(&value)
 }
 
 /// Whether one of the first three settings may have this figure.
 fn is_selectivity(value: f64) -> bool {
-    is_plus_zero(value) || (power_of_two(-64)..=1.0).contains(&value)
+    is_plus_zero(value) || (SMALLEST..=1.0).contains(&value)
 }
 
 /// Whether a Float64 scalar may have this value.
 fn is_scalar_float(value: f64) -> bool {
-    is_plus_zero(value) || (power_of_two(-400)..=power_of_two(400)).contains(&value.abs())
+    is_plus_zero(value) || (SMALLEST_FLOAT..=LARGEST_FLOAT).contains(&value.abs())
 }
 
 /// A scalar that is there. Behind its own bytes there may be zeros alone.
@@ -347,7 +331,7 @@ impl Ascending {
     }
 
     fn takes_column(&mut self, number: u16) -> bool {
-        number < COLUMN_END && self.takes(number)
+        number < COLUMNS && self.takes(number)
     }
 }
 
@@ -374,25 +358,21 @@ impl<'a> Input<'a> {
         self.part(place, "record", size)
     }
 
-    fn count(
-        &mut self,
-        section: Section,
-        limits: RangeInclusive<u16>,
-    ) -> Result<Found<u16>, Refusal> {
+    fn count(&mut self, section: Section) -> Result<Found<u16>, Refusal> {
         // A place fits, since the length of the sheet was looked at before.
         self.sections[section as usize] = self.at as u16;
         let mut part = self.part(Place::section(section), "count", 2)?;
-        part.u16("count")?.rule(3, |count| limits.contains(&count))
+        part.u16("count")?
+            .rule(3, |count| counts(section).contains(&count.into()))
     }
 
     /// A count within its limits and then as many records.
     fn section<T>(
         &mut self,
         section: Section,
-        limits: RangeInclusive<u16>,
         mut each: impl FnMut(&mut Self, Place) -> Result<T, Refusal>,
     ) -> Result<Vec<T>, Refusal> {
-        let count = self.count(section, limits)?.value;
+        let count = self.count(section)?.value;
         let place = Place::section(section);
         (0..usize::from(count))
             .map(|number| each(self, place.record(number)))
@@ -404,14 +384,14 @@ impl<'a> Input<'a> {
         let settings = self.settings()?;
         let sketches = self.sketches()?;
         let tables = self.tables()?;
-        let keys = self.section(Section::Keys, 0..=64, Self::key)?;
+        let keys = self.section(Section::Keys, Self::key)?;
         let columns = [
             self.columns(Section::LeftColumns, sketches.len())?,
             self.columns(Section::RightColumns, sketches.len())?,
         ];
         let classes = [
-            self.section(Section::LeftClasses, 0..=32, Self::class)?,
-            self.section(Section::RightClasses, 0..=32, Self::class)?,
+            self.section(Section::LeftClasses, Self::class)?,
+            self.section(Section::RightClasses, Self::class)?,
         ];
         let expressions = self.expressions()?;
         let operands = self.operands(&expressions)?;
@@ -431,7 +411,7 @@ impl<'a> Input<'a> {
     }
 
     fn rows(&mut self) -> Result<[Estimate; 2], Refusal> {
-        self.count(Section::Rows, 2..=2)?;
+        self.count(Section::Rows)?;
         let place = Place::section(Section::Rows);
         Ok([self.row(place.record(0))?, self.row(place.record(1))?])
     }
@@ -441,7 +421,7 @@ impl<'a> Input<'a> {
     }
 
     fn settings(&mut self) -> Result<[f64; 5], Refusal> {
-        self.count(Section::Settings, 5..=5)?;
+        self.count(Section::Settings)?;
         let mut settings = [0.0; 5];
         for (number, setting) in settings.iter_mut().enumerate() {
             *setting = self.setting(number)?;
@@ -461,19 +441,19 @@ impl<'a> Input<'a> {
     }
 
     fn sketches(&mut self) -> Result<Vec<Sketch>, Refusal> {
-        let mut room = MAX_SKETCH_ITEMS;
-        self.section(Section::Sketches, 0..=16, |input, place| {
+        let mut room = ALL_ITEMS;
+        self.section(Section::Sketches, |input, place| {
             input.sketch(place, &mut room)
         })
     }
 
     /// `room` is the number of items that this sketch and later ones may still have.
-    fn sketch(&mut self, place: Place, room: &mut u16) -> Result<Sketch, Refusal> {
+    fn sketch(&mut self, place: Place, room: &mut usize) -> Result<Sketch, Refusal> {
         let mut head = self.part(place, "head", SKETCH_HEAD_SIZE)?;
         let population = head.whole("population")?;
-        let most = (*room).min(64);
-        let n = head.u16("n")?.rule(3, |n| n <= most)?.value;
-        *room -= n;
+        let most = (*room).min(SKETCH_ITEMS);
+        let n = head.u16("n")?.rule(3, |n| usize::from(n) <= most)?.value;
+        *room -= usize::from(n);
         let mut items = Vec::new();
         for number in 0..usize::from(n) {
             let item = self.sketch_item(place.item(number), &items)?;
@@ -498,7 +478,7 @@ impl<'a> Input<'a> {
 
     fn tables(&mut self) -> Result<Vec<Table>, Refusal> {
         let mut ascending = Ascending::new();
-        self.section(Section::Tables, 0..=64, |input, place| {
+        self.section(Section::Tables, |input, place| {
             input.table(place, &mut ascending)
         })
     }
@@ -508,7 +488,7 @@ impl<'a> Input<'a> {
         let table = part.u16("table")?.rule(7, |table| ascending.takes(table))?;
         let rows = part
             .u64("rows")?
-            .rule(4, |rows| rows <= MAX_WHOLE || rows == UNKNOWN_ROWS)?;
+            .rule(4, |rows| rows <= MOST || rows == UNKNOWN_ROWS)?;
         Ok(Table {
             table: table.value,
             rows: Some(rows.value).filter(|rows| *rows != UNKNOWN_ROWS),
@@ -535,7 +515,7 @@ impl<'a> Input<'a> {
 
     fn columns(&mut self, section: Section, sketches: usize) -> Result<Vec<Column>, Refusal> {
         let mut ascending = Ascending::new();
-        self.section(section, 0..=64, |input, place| {
+        self.section(section, |input, place| {
             input.column(place, &mut ascending, sketches)
         })
     }
@@ -563,7 +543,10 @@ impl<'a> Input<'a> {
 
     fn class(&mut self, place: Place) -> Result<Class, Refusal> {
         let mut head = self.part(place, "head", CLASS_HEAD_SIZE)?;
-        let n = head.u16("n")?.rule(3, |n| (2..=128).contains(&n))?.value;
+        let n = head
+            .u16("n")?
+            .rule(3, |n| CLASS_COLUMNS.contains(&n.into()))?
+            .value;
         let distinct = head.estimate(&DISTINCT_NAMES)?;
         let mut ascending = Ascending::new();
         let columns = (0..usize::from(n))
@@ -581,7 +564,7 @@ impl<'a> Input<'a> {
     }
 
     fn expressions(&mut self) -> Result<Vec<Expression>, Refusal> {
-        let count = self.count(Section::Expressions, 0..=256)?.value;
+        let count = self.count(Section::Expressions)?.value;
         let place = Place::section(Section::Expressions);
         let mut next_operand = 0;
         let mut expressions = Vec::new();
@@ -597,7 +580,7 @@ impl<'a> Input<'a> {
 
     fn operands(&mut self, expressions: &[Expression]) -> Result<Vec<u16>, Refusal> {
         let in_runs: usize = expressions.iter().map(run_length).sum();
-        self.count(Section::Operands, 0..=512)?
+        self.count(Section::Operands)?
             .rule(9, |count| usize::from(count) == in_runs)?;
         let place = Place::section(Section::Operands);
         let mut operands = Vec::new();
@@ -627,7 +610,7 @@ impl<'a> Input<'a> {
     }
 
     fn conjuncts(&mut self, expressions: usize) -> Result<Vec<u16>, Refusal> {
-        self.section(Section::Conjuncts, 0..=64, |input, place| {
+        self.section(Section::Conjuncts, |input, place| {
             let found = input
                 .record(place, 2)?
                 .u16("expression")?
@@ -660,7 +643,7 @@ fn expression(part: &mut Part, number: u16, next_operand: usize) -> Result<Expre
     let op = part.u8("op")?.rule(6, |op| op < op_end(kind))?.value;
     let a = part.u16("a")?;
     let a = match kind {
-        1 => a.rule(7, |column| column < COLUMN_END),
+        1 => a.rule(7, |column| column < COLUMNS),
         2 | 3 => a.rule(8, |child| child < number),
         4 => a.rule(9, |first| usize::from(first) == next_operand),
         _ => a.rule(6, |unused| unused == 0),

@@ -3,6 +3,7 @@
 //! One walk serves both: it hands each field to a [`Sink`], which keeps the bytes or notes the
 //! field. The walk keeps no rule, so it writes sheets that a reader turns back, too.
 
+use crate::limits::NONE;
 use crate::values::{
     Class, Column, Estimate, Expression, Field, Holds, Key, SECTIONS, Scalar, Section, Sheet,
     Sketch, SketchItem, Table,
@@ -13,9 +14,6 @@ pub const SCALAR_SIZE: usize = 19;
 
 /// The length of an estimate in bytes.
 pub const ESTIMATE_SIZE: usize = 26;
-
-/// Stands for "none" in a u16 field that may be without a number.
-pub(crate) const NONE: u16 = u16::MAX;
 
 /// The bytes of a sheet. A length above 65,535 loses its high bits in its count.
 pub fn write(sheet: &Sheet) -> Vec<u8> {

@@ -29,7 +29,6 @@ fn numbers(seeds: u64) -> [usize; 11] {
 #[test]
 fn every_number_is_met_often() {
     let seen = numbers(SEEDS);
-    println!("{seen:?}");
     assert!(seen[0] < SEEDS as usize / 8, "{seen:?}");
     assert!(seen[1] >= 50, "{seen:?}");
     for number in 2..=10 {

@@ -1,10 +1,11 @@
 //! Unknown codes, and fields that have to be zero or FFFF and aren't.
 
 use super::Copy;
+use crate::limits;
 use crate::random::Random;
 use crate::values::{Expression, Holds, Key, Section};
 
-const NONE: usize = 0xffff;
+const NONE: usize = limits::NONE as usize;
 
 /// A byte from `end` on.
 fn unknown(random: &mut Random, end: usize) -> u8 {

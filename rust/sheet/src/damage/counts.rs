@@ -1,28 +1,11 @@
 //! Counts and lengths outside their limits, alone or with the records that they count.
 
 use super::Copy;
+use crate::limits::{ALL_ITEMS, CLASS_COLUMNS, SKETCH_ITEMS, most};
+use crate::samples::{self, from_catalog};
 use crate::values::{
-    Class, Column, Estimate, Expression, Holds, Key, Scalar, Section, Sheet, Sketch, SketchItem,
-    Table,
+    Class, Column, Expression, Holds, Key, Scalar, Section, Sheet, Sketch, SketchItem, Table,
 };
-
-const SKETCH_ITEMS: usize = 64;
-const ALL_ITEMS: usize = 512;
-const CLASS_COLUMNS: usize = 128;
-
-fn limit(section: Section) -> usize {
-    match section {
-        Section::Rows => 2,
-        Section::Settings => 5,
-        Section::Sketches => 16,
-        Section::Tables | Section::Keys => 64,
-        Section::LeftColumns | Section::RightColumns => 64,
-        Section::LeftClasses | Section::RightClasses => 32,
-        Section::Expressions => 256,
-        Section::Operands => 512,
-        Section::Conjuncts => 64,
-    }
-}
 
 /// A number outside a limit, or one that the bytes behind it don't bear out.
 fn wrong(copy: &mut Copy, now: usize, limit: usize) -> usize {
@@ -42,7 +25,7 @@ pub fn count(copy: &mut Copy) -> bool {
         return false;
     };
     let now = copy.u16_of(field);
-    let number = wrong(copy, now, limit(field.section));
+    let number = wrong(copy, now, most(field.section));
     copy.put_u16(field, number)
 }
 
@@ -52,10 +35,10 @@ pub fn length(copy: &mut Copy) -> bool {
     };
     let limit = match field.section {
         Section::Sketches => SKETCH_ITEMS,
-        _ => CLASS_COLUMNS,
+        _ => *CLASS_COLUMNS.end(),
     };
     let now = copy.u16_of(field);
-    let few = limit == CLASS_COLUMNS && copy.random.chance(40);
+    let few = field.section != Section::Sketches && copy.random.chance(40);
     let number = match few {
         true => copy.random.below(2),
         false => wrong(copy, now, limit),
@@ -68,16 +51,32 @@ pub fn too_many(copy: &mut Copy) -> bool {
     let sheet = &mut copy.sheet;
     let more = if copy.random.chance(80) { 1 } else { 5 };
     match copy.random.below(12) {
-        0 => fill(&mut sheet.sketches, 16 + more, |_| sketch(0, 0)),
+        0 => fill(&mut sheet.sketches, most(Section::Sketches) + more, |_| {
+            sketch(0, 0)
+        }),
         1 => sheet.sketches = vec![sketch(0, SKETCH_ITEMS + more)],
         2 => crowd(sheet, more),
-        3 => sheet.tables = (0..64 + more).map(table).collect(),
-        4 => fill(&mut sheet.keys, 64 + more, |_| Key::Unique { key: (1, 2) }),
-        5 => sheet.columns[0] = (0..64 + more).map(column).collect(),
-        6 => sheet.columns[1] = (0..64 + more).map(column).collect(),
-        7 => fill(&mut sheet.classes[0], 32 + more, |_| class(2)),
-        8 => fill(&mut sheet.classes[1], 32 + more, |_| class(2)),
-        9 => fill(&mut sheet.expressions, 256 + more, |_| Expression::Like),
+        3 => sheet.tables = (0..most(Section::Tables) + more).map(table).collect(),
+        4 => fill(&mut sheet.keys, most(Section::Keys) + more, |_| {
+            Key::Unique { key: (1, 2) }
+        }),
+        5 => sheet.columns[0] = (0..most(Section::LeftColumns) + more).map(column).collect(),
+        6 => sheet.columns[1] = (0..most(Section::LeftColumns) + more).map(column).collect(),
+        7 => fill(
+            &mut sheet.classes[0],
+            most(Section::LeftClasses) + more,
+            |_| class(2),
+        ),
+        8 => fill(
+            &mut sheet.classes[1],
+            most(Section::RightClasses) + more,
+            |_| class(2),
+        ),
+        9 => fill(
+            &mut sheet.expressions,
+            most(Section::Expressions) + more,
+            |_| Expression::Like,
+        ),
         10 => too_many_operands(sheet, more),
         _ => too_many_conjuncts(sheet, more),
     }
@@ -118,44 +117,27 @@ fn table(number: usize) -> Table {
     }
 }
 
-fn plain(value: f64) -> Estimate {
-    Estimate {
-        source: 0,
-        value,
-        lower: None,
-        upper: None,
-    }
-}
-
 fn column(number: usize) -> Column {
-    Column {
-        column: number as u16,
-        base: None,
-        lower: None,
-        upper: None,
-        frequency: plain(10.0),
-        distinct: plain(5.0),
-        sketch: None,
-    }
+    samples::column(number as u16)
 }
 
 fn class(count: usize) -> Class {
     Class {
-        distinct: plain(3.0),
+        distinct: from_catalog(3.0),
         columns: (0..count as u16).collect(),
     }
 }
 
 fn too_many_operands(sheet: &mut Sheet, more: usize) {
-    sheet.expressions.truncate(255);
+    sheet.expressions.truncate(most(Section::Expressions) - 1);
     sheet.operands.truncate(next_operand(sheet));
     let first = sheet.operands.len();
     sheet.expressions.push(Expression::Nary {
         op: 0,
         first: first as u16,
-        count: (512 + more - first) as u16,
+        count: (most(Section::Operands) + more - first) as u16,
     });
-    fill(&mut sheet.operands, 512 + more, |_| 0);
+    fill(&mut sheet.operands, most(Section::Operands) + more, |_| 0);
 }
 
 fn next_operand(sheet: &Sheet) -> usize {
@@ -170,7 +152,7 @@ fn too_many_conjuncts(sheet: &mut Sheet, more: usize) {
     if sheet.expressions.is_empty() {
         sheet.expressions.push(Expression::Other);
     }
-    fill(&mut sheet.conjuncts, 64 + more, |_| 0);
+    fill(&mut sheet.conjuncts, most(Section::Conjuncts) + more, |_| 0);
 }
 
 /// A class of no column, of one, or of more than there are.
@@ -178,7 +160,7 @@ pub fn bad_class(copy: &mut Copy) -> bool {
     let side = copy.random.below(2);
     let count = copy
         .random
-        .pick(&[0, 1, 1, CLASS_COLUMNS + 1, CLASS_COLUMNS + 2]);
+        .pick(&[0, 1, 1, CLASS_COLUMNS.end() + 1, CLASS_COLUMNS.end() + 2]);
     let place = copy.random.below(copy.sheet.classes[side].len() + 1);
     copy.sheet.classes[side].insert(place, class(count));
     copy.write();

@@ -1,9 +1,8 @@
 //! Sheets cut short or made longer, and bytes changed anywhere.
 
 use super::Copy;
+use crate::limits::LONGEST;
 use crate::values::Holds;
-
-const LONGEST: usize = 65_535;
 
 /// Cuts the bytes off somewhere.
 pub fn cut(copy: &mut Copy) -> bool {

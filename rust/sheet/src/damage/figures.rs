@@ -1,35 +1,26 @@
 //! Figures outside their ranges.
 
-use super::Copy;
-use crate::values::Holds;
-
-const SMALLEST: f64 = f64::from_bits((1023 - 64) << 52);
-const LARGEST: f64 = f64::from_bits((1023 + 64) << 52);
-const MOST: u64 = 1 << 53;
+use super::{Copy, NOWHERE};
+use crate::limits::{LARGEST, MOST, SMALLEST};
+use crate::values::{Field, Holds};
 
 /// A number that no figure may be.
 fn bad(copy: &mut Copy) -> f64 {
-    copy.random.pick(&[
-        -0.0,
-        f64::NAN,
-        -f64::NAN,
-        f64::INFINITY,
-        f64::NEG_INFINITY,
-        f64::from_bits(1),
-        f64::MIN_POSITIVE,
-        -f64::from_bits(1),
-        SMALLEST.next_down(),
-        SMALLEST / 2.0,
-        LARGEST.next_up(),
-        LARGEST * 2.0,
-        -SMALLEST,
-        -1.0,
-        -LARGEST,
-        f64::MAX,
-    ])
+    copy.random.pick_of_both(
+        &NOWHERE,
+        &[
+            SMALLEST.next_down(),
+            SMALLEST / 2.0,
+            LARGEST.next_up(),
+            LARGEST * 2.0,
+            -SMALLEST,
+            -1.0,
+            -LARGEST,
+        ],
+    )
 }
 
-fn put(copy: &mut Copy, field: crate::values::Field, value: f64) -> bool {
+fn put(copy: &mut Copy, field: Field, value: f64) -> bool {
     copy.put(field, &value.to_bits().to_le_bytes())
 }
 

@@ -1,9 +1,10 @@
 //! Columns and tables out of order, values twice, and numbers that name nothing.
 
 use super::Copy;
+use crate::limits;
 use crate::values::{Expression, Field, Holds, Scalar, Section, SketchItem};
 
-const COLUMNS: usize = 128;
+const COLUMNS: usize = limits::COLUMNS as usize;
 
 /// A column or table whose number is too large, or not above the one before.
 pub fn column(copy: &mut Copy) -> bool {

@@ -1,12 +1,10 @@
 //! Scalars that break a rule.
 
-use super::Copy;
+use super::{Copy, NOWHERE};
+use crate::limits::{LARGEST_FLOAT, SMALLEST_FLOAT};
 use crate::random::Random;
 use crate::values::{Expression, Field, Holds, Scalar, Section};
 use crate::writer::{SCALAR_SIZE, scalar_bytes};
-
-const LEAST: f64 = f64::from_bits((1023 - 400) << 52);
-const MOST: f64 = f64::from_bits((1023 + 400) << 52);
 
 type Bytes = [u8; SCALAR_SIZE];
 
@@ -106,23 +104,17 @@ fn absent_with_more(random: &mut Random) -> Bytes {
 }
 
 fn bad_float(random: &mut Random) -> f64 {
-    random.pick(&[
-        -0.0,
-        f64::NAN,
-        -f64::NAN,
-        f64::INFINITY,
-        f64::NEG_INFINITY,
-        f64::from_bits(1),
-        -f64::from_bits(1),
-        f64::MIN_POSITIVE,
-        LEAST.next_down(),
-        -LEAST.next_down(),
-        LEAST / 2.0,
-        MOST.next_up(),
-        -MOST.next_up(),
-        MOST * 2.0,
-        f64::MAX,
-    ])
+    random.pick_of_both(
+        &NOWHERE,
+        &[
+            SMALLEST_FLOAT.next_down(),
+            -SMALLEST_FLOAT.next_down(),
+            SMALLEST_FLOAT / 2.0,
+            LARGEST_FLOAT.next_up(),
+            -LARGEST_FLOAT.next_up(),
+            LARGEST_FLOAT * 2.0,
+        ],
+    )
 }
 
 fn bad_decimal(random: &mut Random) -> Scalar {

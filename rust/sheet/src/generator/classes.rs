@@ -3,9 +3,8 @@
 use super::Draw;
 use super::figures::{class_distinct, estimate};
 use super::style::Size;
+use crate::limits::COLUMNS;
 use crate::values::{Class, Sheet};
-
-const CLASSES: usize = 32;
 
 pub fn fill(draw: &mut Draw, sheet: &mut Sheet) {
     for side in [0, 1] {
@@ -24,9 +23,8 @@ fn count(draw: &mut Draw) -> usize {
     }
 }
 
-/// One more class of a side, whose list isn't full.
+/// One more class of a side.
 pub fn class(draw: &mut Draw, sheet: &Sheet, side: usize) -> Class {
-    assert!(sheet.classes[side].len() < CLASSES);
     let columns = columns(draw, sheet, side);
     let near = near(sheet, &columns);
     let distinct = class_distinct(&mut draw.random, &draw.style, near);
@@ -54,7 +52,7 @@ fn columns(draw: &mut Draw, sheet: &Sheet, side: usize) -> Vec<u16> {
         add(&mut columns, member(draw, side));
     }
     while columns.len() < 2 {
-        add(&mut columns, draw.random.below(128) as u16);
+        add(&mut columns, draw.random.below(COLUMNS.into()) as u16);
     }
     columns.sort();
     columns

@@ -5,9 +5,8 @@ use super::figures::{distinct, estimate, frequency};
 use super::scalars::{Kind, kind, lookalike};
 use super::sketches;
 use super::style::Spread;
-use crate::values::{Column, Scalar, Sheet};
-
-const SKETCHES: usize = 16;
+use crate::limits::most;
+use crate::values::{Column, Scalar, Section, Sheet};
 
 pub fn fill(draw: &mut Draw, sheet: &mut Sheet) {
     for side in [0, 1] {
@@ -42,7 +41,7 @@ fn sketch(draw: &mut Draw, sheet: &mut Sheet, kind: Kind, rows: f64) -> Option<u
         return None;
     }
     let known = sheet.sketches.len();
-    if known == SKETCHES || known > 0 && draw.random.chance(20) {
+    if known == most(Section::Sketches) || known > 0 && draw.random.chance(20) {
         return Some(draw.random.below(known) as u16);
     }
     let sketch = sketches::sketch(&mut draw.random, &draw.domain, kind, rows);

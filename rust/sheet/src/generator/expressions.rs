@@ -7,11 +7,8 @@ use super::Draw;
 use super::edges::Edge;
 use super::scalars;
 use super::style::Size;
-use crate::values::{Column, Expression, Scalar, Sheet};
-
-pub const EXPRESSIONS: usize = 256;
-pub const OPERANDS: usize = 512;
-pub const CONJUNCTS: usize = 64;
+use crate::limits::most;
+use crate::values::{Column, Expression, Scalar, Section, Sheet};
 
 const EQUAL: u8 = 0;
 const NULL_SAFE: u8 = 1;
@@ -68,9 +65,9 @@ struct List {
 
 impl List {
     fn fits(&self) -> bool {
-        self.expressions.len() <= EXPRESSIONS
-            && self.operands.len() <= OPERANDS
-            && self.conjuncts.len() <= CONJUNCTS
+        self.expressions.len() <= most(Section::Expressions)
+            && self.operands.len() <= most(Section::Operands)
+            && self.conjuncts.len() <= most(Section::Conjuncts)
     }
 }
 

@@ -1,15 +1,9 @@
 //! Rows, frequencies, distincts and settings.
 
 use super::style::Style;
+use crate::limits::{LARGEST, MOST, SMALLEST};
 use crate::random::Random;
 use crate::values::Estimate;
-
-/// Two to the -64.
-pub const SMALLEST: f64 = f64::from_bits((1023 - 64) << 52);
-/// Two to the 64.
-pub const LARGEST: f64 = f64::from_bits((1023 + 64) << 52);
-/// Two to the 53, the largest count.
-pub const MOST: u64 = 1 << 53;
 
 pub const CATALOG: u8 = 1;
 

@@ -1,14 +1,11 @@
 //! Base columns, the tables that are listed, and the keys.
 
 use super::Draw;
-use super::figures::MOST;
+use crate::limits::{MOST, NONE, most};
 use crate::random::Random;
-use crate::values::{Key, Sheet, Table};
+use crate::values::{Key, Section, Sheet, Table};
 
 type Base = (u16, u16);
-
-const NONE: u16 = u16::MAX;
-const KEYS: usize = 64;
 
 pub fn fill(draw: &mut Draw, sheet: &mut Sheet) {
     let labels = [0, 1].map(|_| labels(&mut draw.random));
@@ -121,7 +118,7 @@ fn keys(draw: &mut Draw, sheet: &mut Sheet) {
         sheet.keys.push(key);
     }
     draw.random.shuffle(&mut sheet.keys);
-    sheet.keys.truncate(KEYS);
+    sheet.keys.truncate(most(Section::Keys));
 }
 
 fn base_of(sheet: &Sheet, side: usize, number: u16) -> Option<Base> {

@@ -1,5 +1,6 @@
 //! The values that one sheet's bounds, sketches and literals are made of.
 
+use crate::limits::{LARGEST_FLOAT, SMALLEST_FLOAT};
 use crate::random::Random;
 use crate::values::Scalar;
 
@@ -26,9 +27,6 @@ pub struct Domain {
     /// Which part of an interval carries the number.
     part: usize,
 }
-
-const LEAST_FLOAT: f64 = f64::from_bits((1023 - 400) << 52);
-const MOST_FLOAT: f64 = f64::from_bits((1023 + 400) << 52);
 
 impl Domain {
     pub fn draw(random: &mut Random) -> Self {
@@ -90,8 +88,8 @@ impl Domain {
     fn float(&self, number: i64) -> f64 {
         match number {
             0 => 0.0,
-            i64::MAX => MOST_FLOAT,
-            i64::MIN => -MOST_FLOAT,
+            i64::MAX => LARGEST_FLOAT,
+            i64::MIN => -LARGEST_FLOAT,
             _ => float(number as f64 * self.factor),
         }
     }
@@ -239,9 +237,9 @@ fn factor(random: &mut Random) -> f64 {
     match random.chance(75) {
         true => random.pick(&[1.0, 0.5, 0.1, 1.0 / 3.0, 100.0]),
         false => random.pick(&[
-            LEAST_FLOAT,
-            LEAST_FLOAT / 1e9,
-            MOST_FLOAT,
+            SMALLEST_FLOAT,
+            SMALLEST_FLOAT / 1e9,
+            LARGEST_FLOAT,
             1e90,
             1e-90,
             1e15,
@@ -299,7 +297,10 @@ fn float(value: f64) -> f64 {
     if value == 0.0 {
         return 0.0;
     }
-    value.abs().clamp(LEAST_FLOAT, MOST_FLOAT).copysign(value)
+    value
+        .abs()
+        .clamp(SMALLEST_FLOAT, LARGEST_FLOAT)
+        .copysign(value)
 }
 
 fn narrow(number: i64) -> i32 {

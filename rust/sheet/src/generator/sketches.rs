@@ -1,7 +1,7 @@
 //! Sketches of frequent values.
 
-use super::figures::MOST;
 use super::scalars::{Domain, Kind, lookalike};
+use crate::limits::MOST;
 use crate::random::Random;
 use crate::values::{Scalar, Sketch, SketchItem};
 

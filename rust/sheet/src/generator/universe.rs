@@ -2,6 +2,7 @@
 
 use super::scalars::{Domain, Kind};
 use super::style::{Size, Style};
+use crate::limits::COLUMNS;
 use crate::random::Random;
 
 /// Column numbers by the profiles that have them.
@@ -14,7 +15,7 @@ pub struct Universe {
     kinds: Vec<Kind>,
 }
 
-const NUMBERS: usize = 128;
+const NUMBERS: usize = COLUMNS as usize;
 
 impl Universe {
     pub fn draw(random: &mut Random, style: &Style, domain: &Domain) -> Self {

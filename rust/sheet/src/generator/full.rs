@@ -2,18 +2,10 @@
 
 use super::Draw;
 use super::classes;
-use super::expressions::{CONJUNCTS, EXPRESSIONS, OPERANDS};
 use super::scalars::{self, Domain};
+use crate::limits::{ALL_ITEMS, COLUMNS, SKETCH_ITEMS, most};
 use crate::random::Random;
-use crate::values::{Expression, Key, Scalar, Sheet, Sketch, SketchItem, Table};
-
-const SKETCHES: usize = 16;
-const ITEMS: usize = 512;
-const SKETCH_ITEMS: usize = 64;
-const TABLES: usize = 64;
-const KEYS: usize = 64;
-const CLASSES: usize = 32;
-const COLUMNS: u16 = 128;
+use crate::values::{Expression, Key, Scalar, Section, Sheet, Sketch, SketchItem, Table};
 
 pub fn fill(draw: &mut Draw, sheet: &mut Sheet) {
     let limits = draw.style.limits;
@@ -49,7 +41,7 @@ pub fn fill(draw: &mut Draw, sheet: &mut Sheet) {
 }
 
 fn fill_sketches(draw: &mut Draw, sheet: &mut Sheet) {
-    while sheet.sketches.len() < SKETCHES {
+    while sheet.sketches.len() < most(Section::Sketches) {
         sheet.sketches.push(Sketch {
             population: draw.random.between(0, 5_000) as u64,
             items: Vec::new(),
@@ -58,20 +50,20 @@ fn fill_sketches(draw: &mut Draw, sheet: &mut Sheet) {
     let [left, right] = &mut sheet.columns;
     for column in left.iter_mut().chain(right) {
         if draw.random.chance(40) {
-            column.sketch = Some(draw.random.below(SKETCHES) as u16);
+            column.sketch = Some(draw.random.below(most(Section::Sketches)) as u16);
         }
     }
 }
 
 /// Fills sketch after sketch until all items are used.
 fn fill_items(draw: &mut Draw, sheet: &mut Sheet) {
-    while sheet.sketches.len() < ITEMS / SKETCH_ITEMS {
+    while sheet.sketches.len() < ALL_ITEMS / SKETCH_ITEMS {
         sheet.sketches.push(Sketch {
             population: draw.random.between(100, 5_000) as u64,
             items: Vec::new(),
         });
     }
-    let mut room = ITEMS - sheet.sketches.iter().map(|s| s.items.len()).sum::<usize>();
+    let mut room = ALL_ITEMS - sheet.sketches.iter().map(|s| s.items.len()).sum::<usize>();
     for sketch in &mut sheet.sketches {
         while room > 0 && sketch.items.len() < SKETCH_ITEMS {
             room -= add_item(&mut draw.random, &draw.domain, sketch);
@@ -99,7 +91,7 @@ fn add_item(random: &mut Random, domain: &Domain, sketch: &mut Sketch) -> usize 
 }
 
 fn fill_tables(draw: &mut Draw, sheet: &mut Sheet) {
-    while sheet.tables.len() < TABLES {
+    while sheet.tables.len() < most(Section::Tables) {
         let table = draw.random.below(1 << 16) as u16;
         if sheet.tables.iter().all(|listed| listed.table != table) {
             let rows = Some(draw.random.between(0, 1_000) as u64);
@@ -110,7 +102,7 @@ fn fill_tables(draw: &mut Draw, sheet: &mut Sheet) {
 }
 
 fn fill_keys(draw: &mut Draw, sheet: &mut Sheet) {
-    while sheet.keys.len() < KEYS {
+    while sheet.keys.len() < most(Section::Keys) {
         let mut label = || draw.random.below(9) as u16;
         let key = (label(), label());
         let referenced = (label(), label());
@@ -122,7 +114,7 @@ fn fill_keys(draw: &mut Draw, sheet: &mut Sheet) {
 }
 
 fn fill_classes(draw: &mut Draw, sheet: &mut Sheet, side: usize) {
-    while sheet.classes[side].len() < CLASSES {
+    while sheet.classes[side].len() < most(Section::LeftClasses) {
         let class = classes::class(draw, sheet, side);
         sheet.classes[side].push(class);
     }
@@ -146,7 +138,7 @@ fn widen_class(draw: &mut Draw, sheet: &mut Sheet) {
 
 /// One long run takes all operands that are left.
 fn fill_operands(draw: &mut Draw, sheet: &mut Sheet) {
-    if sheet.expressions.len() == EXPRESSIONS {
+    if sheet.expressions.len() == most(Section::Expressions) {
         return;
     }
     let leaves = leaves(sheet);
@@ -154,13 +146,13 @@ fn fill_operands(draw: &mut Draw, sheet: &mut Sheet) {
         return;
     }
     let first = sheet.operands.len();
-    while sheet.operands.len() < OPERANDS {
+    while sheet.operands.len() < most(Section::Operands) {
         sheet.operands.push(draw.random.pick(&leaves));
     }
     sheet.expressions.push(Expression::Nary {
         op: draw.random.below(2) as u8,
         first: first as u16,
-        count: (OPERANDS - first) as u16,
+        count: (most(Section::Operands) - first) as u16,
     });
 }
 
@@ -174,7 +166,7 @@ fn leaves(sheet: &Sheet) -> Vec<u16> {
 }
 
 fn fill_expressions(draw: &mut Draw, sheet: &mut Sheet) {
-    while sheet.expressions.len() < EXPRESSIONS {
+    while sheet.expressions.len() < most(Section::Expressions) {
         let expression = small(draw, sheet);
         sheet.expressions.push(expression);
     }
@@ -214,7 +206,7 @@ fn fill_conjuncts(draw: &mut Draw, sheet: &mut Sheet) {
     if sheet.expressions.is_empty() {
         sheet.expressions.push(Expression::Other);
     }
-    while sheet.conjuncts.len() < CONJUNCTS {
+    while sheet.conjuncts.len() < most(Section::Conjuncts) {
         let number = draw.random.below(sheet.expressions.len());
         sheet.conjuncts.push(number as u16);
     }
