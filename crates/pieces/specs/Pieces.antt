@@ -1,10 +1,11 @@
 -- What the functions for programs in other languages answer, in terms of the crates behind them. Definitions only.
 use Prim.Native.Nat.{ℕ}
-use mathlib.Core.Bool.{Bool, cond}
+use mathlib.Core.Bool.{Bool, true, false, cond}
 use mathlib.Core.List.{List}
 use lib.Dec.{leb}
 use lib.ListN.{length}
 use lib.Ieee.{Float}
+use Rattle.float.specs.Order.{f64Zero}
 use Rattle.le.specs.Fields.{onto}
 use Rattle.scalar.specs.Order.{scalarOrder}
 use Rattle.scalar.specs.Number.{scalarToF64}
@@ -14,6 +15,12 @@ use Rattle.scalar_bytes.specs.Reading.{scalarAt}
 use Rattle.estimate.specs.Estimates.{derived, maxByValue, minByValue}
 use Rattle.estimate.specs.Bytes.{estimateAt, estimateBytes}
 use Rattle.estimate.specs.declared.Estimate.{Estimate}
+use Rattle.records.specs.Columns.{columnProfileAt}
+use Rattle.interval.specs.Fraction.{scalarIntervalFraction}
+use Rattle.interval.specs.Intersection.{estimatedDistinctIntersection}
+use Rattle.interval.specs.declared.fraction.IntervalFraction.{IntervalFraction}
+use Rattle.interval.specs.declared.fraction.IntervalFraction.the-variants.{NoFraction, Fraction}
+use Rattle.interval.specs.declared.intersection.DistinctIntersection.{DistinctIntersection}
 use Rattle.sheet.specs.Check.{check}
 use Rattle.sheet.specs.declared.Checked.{Checked}
 use Rattle.sheet.specs.declared.Checked.the-variants.{Refused, Accepted}
@@ -43,6 +50,24 @@ piecesHasNumber value = scalarToF64 (scalarAt value 0) .present
 
 unfoldable pub piecesNumber : List ℕ → Float
 piecesNumber value = scalarToF64 (scalarAt value 0) .number
+
+-- the fraction of four scalars, where there is one
+unfoldable pub piecesFraction : List ℕ → List ℕ → List ℕ → List ℕ → IntervalFraction
+piecesFraction lower upper overlapLower overlapUpper = scalarIntervalFraction (scalarAt lower 0) (scalarAt upper 0) (scalarAt overlapLower 0) (scalarAt overlapUpper 0)
+
+abbrev pub isFraction : IntervalFraction → Bool
+isFraction NoFraction = false
+isFraction (Fraction x) = true
+
+-- +0 where there is none
+abbrev pub fractionNumber : IntervalFraction → Float
+fractionNumber NoFraction = f64Zero
+fractionNumber (Fraction x) = x
+
+-- ---- columns' profiles, each the first 98 bytes of a list
+
+unfoldable pub piecesIntersection : List ℕ → List ℕ → Float → Float → DistinctIntersection
+piecesIntersection left right leftDistinct rightDistinct = estimatedDistinctIntersection (columnProfileAt left 0) (columnProfileAt right 0) leftDistinct rightDistinct
 
 -- ---- estimates, each the first 26 bytes of a list
 

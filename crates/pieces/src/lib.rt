@@ -6,11 +6,16 @@ ghost use Rattle.power.specs.Power.{power};
 ghost use Rattle.root.specs.Root.{root};
 ghost use Rattle.scalar.specs.Number.{scalarToF64};
 ghost use Rattle.scalar_bytes.specs.Reading.{scalarAt};
-ghost use Rattle.pieces.specs.Pieces.{orderNumber, piecesCheck, piecesScalarOrder, piecesHasNumber, piecesNumber, piecesMaxByValue, piecesMinByValue, piecesDerived, written, withEstimate};
+ghost use Rattle.pieces.specs.Pieces.{orderNumber, piecesCheck, piecesScalarOrder, piecesHasNumber, piecesNumber, piecesFraction, isFraction, fractionNumber, piecesIntersection, piecesMaxByValue, piecesMinByValue, piecesDerived, written, withEstimate};
 use estimate::Estimate;
 use estimate::bytes::estimate_at;
 use estimate::bytes::put_estimate;
 use float::option::OptionF64;
+use interval::fraction::IntervalFraction;
+use interval::fraction::scalar_interval_fraction;
+use interval::intersection::DistinctIntersection;
+use interval::intersection::estimated_distinct_intersection;
+use records::columns::column_profile_at;
 use scalar::number::scalar_to_f64;
 use scalar::order::ScalarOrdering;
 use scalar::order::scalar_order;
@@ -70,6 +75,100 @@ pub extern "C" fn pieces_number(value: &[u8]) -> f64
 {
     let number = number_of(value);
     number.number
+}
+
+fn fraction_of(
+    lower: &[u8],
+    upper: &[u8],
+    overlap_lower: &[u8],
+    overlap_upper: &[u8],
+) -> IntervalFraction
+    ensures { λ r. ⌜ r ≡ piecesFraction (now (lower .entry)) (now (upper .entry)) (now («overlap_lower» .entry)) (now («overlap_upper» .entry)) ⌝ }
+{
+    scalar_interval_fraction(
+        scalar_at(lower, 0),
+        scalar_at(upper, 0),
+        scalar_at(overlap_lower, 0),
+        scalar_at(overlap_upper, 0),
+    )
+}
+
+// Whether four scalars of 19 bytes have a fraction.
+#[no_mangle]
+pub extern "C" fn pieces_has_fraction(
+    lower: &[u8],
+    upper: &[u8],
+    overlap_lower: &[u8],
+    overlap_upper: &[u8],
+) -> bool
+    ensures { λ r. ⌜ r ≡ isFraction (piecesFraction (now (lower .entry)) (now (upper .entry)) (now («overlap_lower» .entry)) (now («overlap_upper» .entry))) ⌝ }
+{
+    let fraction = fraction_of(lower, upper, overlap_lower, overlap_upper);
+    match fraction {
+        IntervalFraction::NoFraction => false,
+        IntervalFraction::Fraction(_) => true,
+    }
+}
+
+// The fraction of four scalars of 19 bytes, or +0.
+#[no_mangle]
+pub extern "C" fn pieces_fraction(
+    lower: &[u8],
+    upper: &[u8],
+    overlap_lower: &[u8],
+    overlap_upper: &[u8],
+) -> f64
+    ensures { λ r. ⌜ r ≡ fractionNumber (piecesFraction (now (lower .entry)) (now (upper .entry)) (now («overlap_lower» .entry)) (now («overlap_upper» .entry))) ⌝ }
+{
+    let fraction = fraction_of(lower, upper, overlap_lower, overlap_upper);
+    match fraction {
+        IntervalFraction::NoFraction => 0.0,
+        IntervalFraction::Fraction(x) => x,
+    }
+}
+
+fn intersection_of(
+    left: &[u8],
+    right: &[u8],
+    left_distinct: f64,
+    right_distinct: f64,
+) -> DistinctIntersection
+    ensures { λ r. ⌜ r ≡ piecesIntersection (now (left .entry)) (now (right .entry)) «left_distinct» «right_distinct» ⌝ }
+{
+    estimated_distinct_intersection(
+        column_profile_at(left, 0),
+        column_profile_at(right, 0),
+        left_distinct,
+        right_distinct,
+    )
+}
+
+// How many distinct values two columns of 98 bytes share.
+#[no_mangle]
+pub extern "C" fn pieces_distinct_intersection(
+    left: &[u8],
+    right: &[u8],
+    left_distinct: f64,
+    right_distinct: f64,
+) -> f64
+    ensures { λ r. ⌜ r ≡ piecesIntersection (now (left .entry)) (now (right .entry)) «left_distinct» «right_distinct» .distinct ⌝ }
+{
+    let shared = intersection_of(left, right, left_distinct, right_distinct);
+    shared.distinct
+}
+
+// Whether the ranges of two columns of 98 bytes are disjoint.
+#[no_mangle]
+pub extern "C" fn pieces_domains_disjoint(
+    left: &[u8],
+    right: &[u8],
+    left_distinct: f64,
+    right_distinct: f64,
+) -> bool
+    ensures { λ r. ⌜ r ≡ piecesIntersection (now (left .entry)) (now (right .entry)) «left_distinct» «right_distinct» .«domains_disjoint» ⌝ }
+{
+    let shared = intersection_of(left, right, left_distinct, right_distinct);
+    shared.domains_disjoint
 }
 
 // Writes the 26 bytes of e to the front of out and answers 26. Where out has no room for them it

@@ -69,3 +69,23 @@ typedOrder tag left right =
 unfoldable pub scalarOrder : Scalar → Scalar → ScalarOrdering
 unfolding typedOrder scalarType
 scalarOrder left right = cond (sameType (scalarType left) (scalarType right)) (typedOrder (scalarType left .tag) left right) Unordered
+
+-- ---- an order that there is, and is this one
+
+abbrev pub isLess : ScalarOrdering → Bool
+isLess Less = true
+isLess Equal = false
+isLess Greater = false
+isLess Unordered = false
+
+abbrev pub isEqual : ScalarOrdering → Bool
+isEqual Less = false
+isEqual Equal = true
+isEqual Greater = false
+isEqual Unordered = false
+
+abbrev pub isGreater : ScalarOrdering → Bool
+isGreater Less = false
+isGreater Equal = false
+isGreater Greater = true
+isGreater Unordered = false

@@ -1,6 +1,6 @@
 -- The type of a scalar, as `data_type` of the source's lib.rs tells types apart. Definitions only.
 use Prim.Native.Nat.{ℕ}
-use mathlib.Core.Bool.{Bool, _&&_}
+use mathlib.Core.Bool.{Bool, true, false, _&&_}
 use lib.Dec.{eqb}
 use Rattle.scalar.specs.declared.Scalar.{Scalar}
 use Rattle.scalar.specs.declared.Scalar.the-variants.{Null, Boolean, Int32, Int64, Float64, Decimal128, Date32, IntervalMonthDayNano, IntervalDayTime}
@@ -23,3 +23,14 @@ scalarType (IntervalDayTime days milliseconds) = plainType 9
 
 abbrev pub sameType : ScalarType → ScalarType → Bool
 sameType a b = eqb (a .tag) (b .tag) && (eqb (a .precision) (b .precision) && eqb (a .scale) (b .scale))
+
+abbrev pub isNull : Scalar → Bool
+isNull Null = true
+isNull (Boolean b) = false
+isNull (Int32 x) = false
+isNull (Int64 x) = false
+isNull (Float64 x) = false
+isNull (Decimal128 value precision scale) = false
+isNull (Date32 x) = false
+isNull (IntervalMonthDayNano months days nanoseconds) = false
+isNull (IntervalDayTime days milliseconds) = false

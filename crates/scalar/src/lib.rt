@@ -1,6 +1,6 @@
 // The source's ScalarValue: its type, its order and its number.
 ghost use mathlib.Core.Path.{_≡_};
-ghost use Rattle.scalar.specs.Types.{plainType, scalarType, sameType};
+ghost use Rattle.scalar.specs.Types.{plainType, scalarType, sameType, isNull};
 
 pub mod number;
 pub mod order;
@@ -91,4 +91,31 @@ pub fn same_type(a: ScalarType, b: ScalarType) -> bool
         a.tag == b.tag,
         rules::both(a.precision == b.precision, a.scale == b.scale),
     )
+}
+
+pub fn is_null(x: Scalar) -> bool
+    ensures { λ r. ⌜ r ≡ isNull x ⌝ }
+{
+    match x {
+        Scalar::Null => true,
+        Scalar::Boolean(_) => false,
+        Scalar::Int32(_) => false,
+        Scalar::Int64(_) => false,
+        Scalar::Float64(_) => false,
+        Scalar::Decimal128 {
+            value: _,
+            precision: _,
+            scale: _,
+        } => false,
+        Scalar::Date32(_) => false,
+        Scalar::IntervalMonthDayNano {
+            months: _,
+            days: _,
+            nanoseconds: _,
+        } => false,
+        Scalar::IntervalDayTime {
+            days: _,
+            milliseconds: _,
+        } => false,
+    }
 }

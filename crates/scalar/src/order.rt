@@ -2,7 +2,7 @@
 ghost use mathlib.Core.Path.{_≡_};
 ghost use lib.IntN.{pos};
 ghost use Rattle.float.specs.Integers.{bit};
-ghost use Rattle.scalar.specs.Order.{integerOrder, floatOrder, orderThen, oneInteger, scalarIntegers, integersOrder, scalarFloat, typedOrder, scalarOrder};
+ghost use Rattle.scalar.specs.Order.{integerOrder, floatOrder, orderThen, oneInteger, scalarIntegers, integersOrder, scalarFloat, typedOrder, scalarOrder, isLess, isEqual, isGreater};
 use crate::Scalar;
 use crate::same_type;
 use crate::scalar_type;
@@ -170,4 +170,37 @@ pub fn scalar_order(left: Scalar, right: Scalar) -> ScalarOrdering
         return typed_order(kind.tag, left, right);
     }
     ScalarOrdering::Unordered
+}
+
+pub fn is_less(order: ScalarOrdering) -> bool
+    ensures { λ r. ⌜ r ≡ isLess order ⌝ }
+{
+    match order {
+        ScalarOrdering::Less => true,
+        ScalarOrdering::Equal => false,
+        ScalarOrdering::Greater => false,
+        ScalarOrdering::Unordered => false,
+    }
+}
+
+pub fn is_equal(order: ScalarOrdering) -> bool
+    ensures { λ r. ⌜ r ≡ isEqual order ⌝ }
+{
+    match order {
+        ScalarOrdering::Less => false,
+        ScalarOrdering::Equal => true,
+        ScalarOrdering::Greater => false,
+        ScalarOrdering::Unordered => false,
+    }
+}
+
+pub fn is_greater(order: ScalarOrdering) -> bool
+    ensures { λ r. ⌜ r ≡ isGreater order ⌝ }
+{
+    match order {
+        ScalarOrdering::Less => false,
+        ScalarOrdering::Equal => false,
+        ScalarOrdering::Greater => true,
+        ScalarOrdering::Unordered => false,
+    }
 }

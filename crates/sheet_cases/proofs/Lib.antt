@@ -1,3 +1,4 @@
 pub mod StoreLaws
 pub mod PrefixLaws
+pub mod EntryLaws
 pub mod PlaceLaws

@@ -1,4 +1,4 @@
--- What a command of the list claims, in terms of `check` of the crate `sheet`. Definitions only.
+-- What a command of the list claims, in terms of `check` of the crate `sheet` and of the entries of `estimates`. Definitions only.
 use Prim.Native.Nat.{ℕ, zero, suc, _+_}
 use mathlib.Core.Bool.{Bool, true, false, not, cond, _&&_}
 use mathlib.Core.List.{List, [], _∷_}
@@ -10,6 +10,7 @@ use Rattle.sheet.specs.Check.{check}
 use Rattle.sheet.specs.declared.Sections.{Sections}
 use Rattle.sheet.specs.declared.Checked.{Checked}
 use Rattle.sheet.specs.declared.Checked.the-variants.{Refused, Accepted}
+use Rattle.sheet_cases.specs.Entries.{isPredicate, isSplit}
 use Rattle.sheet_cases.specs.Stores.{storeFits}
 use Rattle.sheet_cases.specs.declared.claims.Verdict.{Verdict}
 
@@ -85,9 +86,16 @@ judgePrefixes s c =
 unfoldable pub answerFits : List ℕ → List ℕ → List ℕ → Bool
 answerFits s a c = leb (u32At c 4) (length s) && leb (u32At c 8 + u32At c 12) (length a)
 
--- as yet the answer is not compared: the claim that is judged is that the sheet is accepted
-unfoldable pub judgeAnswer : ℕ → List ℕ → List ℕ → List ℕ → Verdict
-judgeAnswer line s a c = cond (answerFits s a c) (oneCase line (isSheet (take (u32At c 4) s))) unknown
+-- as yet a join's answer is not compared: the claim that is judged is that the sheet is accepted
+unfoldable pub judgeJoin : List ℕ → List ℕ → List ℕ → Verdict
+judgeJoin s a c = cond (answerFits s a c) (oneCase 14 (isSheet (take (u32At c 4) s))) unknown
+
+-- the expression is u16At c 2
+unfoldable pub judgePredicate : List ℕ → List ℕ → List ℕ → Verdict
+judgePredicate s a c = cond (answerFits s a c) (oneCase 15 (isPredicate (take (u32At c 4) s) (u16At c 2) a (u32At c 8) (u32At c 12))) unknown
+
+unfoldable pub judgeSplit : List ℕ → List ℕ → List ℕ → Verdict
+judgeSplit s a c = cond (answerFits s a c) (oneCase 16 (isSplit (take (u32At c 4) s) (u16At c 2) a (u32At c 8) (u32At c 12))) unknown
 
 -- by the kind, where s is the sheet's buffer and a the answer's
 unfoldable pub judge : List ℕ → List ℕ → List ℕ → Verdict
@@ -98,6 +106,6 @@ judge s a c =
     (cond (eqb kind 3) (judgeAccepted s c)
     (cond (eqb kind 4) (judgePrefixes s c)
     (cond (eqb kind 5) (judgeStore a c)
-    (cond (eqb kind 6) (judgeAnswer 14 s a c)
-    (cond (eqb kind 7) (judgeAnswer 15 s a c)
-    (cond (eqb kind 8) (judgeAnswer 16 s a c) unknown)))))))
+    (cond (eqb kind 6) (judgeJoin s a c)
+    (cond (eqb kind 7) (judgePredicate s a c)
+    (cond (eqb kind 8) (judgeSplit s a c) unknown)))))))

@@ -1,3 +1,4 @@
 pub mod Stores
+pub mod Entries
 pub mod Claims
 pub mod Tallies

@@ -1,6 +1,7 @@
 //! The proved library's functions, called through its C names.
 
 mod c {
+    pub type Entry = unsafe extern "C" fn(*const u8, usize, u16, *mut u8, usize) -> u64;
     pub type Merge =
         unsafe extern "C" fn(*const u8, usize, *const u8, usize, *mut u8, usize) -> u64;
 
@@ -14,6 +15,42 @@ mod c {
         ) -> u64;
         pub fn pieces_has_number(value: *const u8, length: usize) -> bool;
         pub fn pieces_number(value: *const u8, length: usize) -> f64;
+        pub fn pieces_has_fraction(
+            lower: *const u8,
+            lower_length: usize,
+            upper: *const u8,
+            upper_length: usize,
+            overlap_lower: *const u8,
+            overlap_lower_length: usize,
+            overlap_upper: *const u8,
+            overlap_upper_length: usize,
+        ) -> bool;
+        pub fn pieces_fraction(
+            lower: *const u8,
+            lower_length: usize,
+            upper: *const u8,
+            upper_length: usize,
+            overlap_lower: *const u8,
+            overlap_lower_length: usize,
+            overlap_upper: *const u8,
+            overlap_upper_length: usize,
+        ) -> f64;
+        pub fn pieces_distinct_intersection(
+            left: *const u8,
+            left_length: usize,
+            right: *const u8,
+            right_length: usize,
+            left_distinct: f64,
+            right_distinct: f64,
+        ) -> f64;
+        pub fn pieces_domains_disjoint(
+            left: *const u8,
+            left_length: usize,
+            right: *const u8,
+            right_length: usize,
+            left_distinct: f64,
+            right_distinct: f64,
+        ) -> bool;
         pub fn pieces_max_by_value(
             left: *const u8,
             left_length: usize,
@@ -33,6 +70,20 @@ mod c {
         pub fn pieces_derived(
             value: *const u8,
             length: usize,
+            out: *mut u8,
+            out_length: usize,
+        ) -> u64;
+        pub fn estimates_predicate(
+            sheet: *const u8,
+            length: usize,
+            expression: u16,
+            out: *mut u8,
+            out_length: usize,
+        ) -> u64;
+        pub fn estimates_split(
+            sheet: *const u8,
+            length: usize,
+            expression: u16,
             out: *mut u8,
             out_length: usize,
         ) -> u64;
@@ -62,6 +113,60 @@ pub fn scalar_to_f64(value: &[u8]) -> Option<f64> {
     has.then_some(number)
 }
 
+pub fn fraction(of: [&[u8]; 4]) -> Option<f64> {
+    let [lower, upper, overlap_lower, overlap_upper] = of;
+    let (has, number) = unsafe {
+        (
+            c::pieces_has_fraction(
+                lower.as_ptr(),
+                lower.len(),
+                upper.as_ptr(),
+                upper.len(),
+                overlap_lower.as_ptr(),
+                overlap_lower.len(),
+                overlap_upper.as_ptr(),
+                overlap_upper.len(),
+            ),
+            c::pieces_fraction(
+                lower.as_ptr(),
+                lower.len(),
+                upper.as_ptr(),
+                upper.len(),
+                overlap_lower.as_ptr(),
+                overlap_lower.len(),
+                overlap_upper.as_ptr(),
+                overlap_upper.len(),
+            ),
+        )
+    };
+    has.then_some(number)
+}
+
+/// How many values two columns share, and whether their ranges are disjoint.
+pub fn intersection(left: &[u8], right: &[u8], distincts: [f64; 2]) -> (f64, bool) {
+    let [a, b] = distincts;
+    unsafe {
+        (
+            c::pieces_distinct_intersection(
+                left.as_ptr(),
+                left.len(),
+                right.as_ptr(),
+                right.len(),
+                a,
+                b,
+            ),
+            c::pieces_domains_disjoint(
+                left.as_ptr(),
+                left.len(),
+                right.as_ptr(),
+                right.len(),
+                a,
+                b,
+            ),
+        )
+    }
+}
+
 fn merged(merge: c::Merge, left: &[u8], right: &[u8], out: &mut [u8]) -> u64 {
     unsafe {
         merge(
@@ -88,6 +193,28 @@ pub fn min_by_value(left: &[u8], right: &[u8], out: &mut [u8]) -> u64 {
 /// The bytes written, 0 where `out` has no room.
 pub fn derived(value: &[u8], out: &mut [u8]) -> u64 {
     unsafe { c::pieces_derived(value.as_ptr(), value.len(), out.as_mut_ptr(), out.len()) }
+}
+
+fn entered(entry: c::Entry, sheet: &[u8], expression: u16, out: &mut [u8]) -> u64 {
+    unsafe {
+        entry(
+            sheet.as_ptr(),
+            sheet.len(),
+            expression,
+            out.as_mut_ptr(),
+            out.len(),
+        )
+    }
+}
+
+/// The bytes written, or 2^32 plus the refusal's number.
+pub fn predicate(sheet: &[u8], expression: u16, out: &mut [u8]) -> u64 {
+    entered(c::estimates_predicate, sheet, expression, out)
+}
+
+/// The bytes written, or 2^32 plus the refusal's number.
+pub fn split(sheet: &[u8], expression: u16, out: &mut [u8]) -> u64 {
+    entered(c::estimates_split, sheet, expression, out)
 }
 
 pub fn root(x: f64) -> f64 {

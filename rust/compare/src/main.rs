@@ -1,6 +1,7 @@
 //! Runs the proved library and the optimizer's own functions on generated sheets, and their
 //! refusals on damaged copies, in one process, and says what was covered and what differs.
 
+mod entries;
 mod library;
 mod outputs;
 mod pieces;
@@ -59,8 +60,8 @@ fn observe(answers: &Answers, report: &mut Report) {
     }
 }
 
-/// The source's answers with both powers, which part in the match figures alone.
-fn compare_answers(sheet: &Sheet, report: &mut Report) {
+/// The source's answers with both powers, which part in the match figures alone, and the entries.
+fn compare_answers(sheet: &Sheet, bytes: &[u8], report: &mut Report) {
     let source = oracle::analysis::answers(sheet);
     let rule = oracle::copies::with_power::answers(sheet);
     let taken = oracle::watch::take_powers();
@@ -71,6 +72,7 @@ fn compare_answers(sheet: &Sheet, report: &mut Report) {
     pieces::compare_powers(&taken, report);
     observe(&rule, report);
     observe(&source, report);
+    entries::compare(bytes, &source, report);
     let mut match_aside = rule;
     match_aside.join.matching = source.join.matching;
     report.held(
@@ -83,8 +85,8 @@ fn compare_answers(sheet: &Sheet, report: &mut Report) {
 }
 
 /// Everything that is compared on an accepted sheet.
-fn compare_accepted(sheet: &Sheet, report: &mut Report) {
-    compare_answers(sheet, report);
+fn compare_accepted(sheet: &Sheet, bytes: &[u8], report: &mut Report) {
+    compare_answers(sheet, bytes, report);
     pieces::compare(sheet, report);
 }
 
@@ -98,7 +100,7 @@ fn compare_sheet(seed: u64, report: &mut Report) {
         read.is_ok_and(|read| read.sheet == drawn),
     );
     report.compared("an accepted sheet", library::check(&bytes) == 0);
-    compare_accepted(&drawn, report);
+    compare_accepted(&drawn, &bytes, report);
 }
 
 /// A damaged copy gets the reader's number; one that is still accepted is compared as a sheet.
@@ -111,12 +113,13 @@ fn compare_damaged(seed: u64, report: &mut Report) {
                 "a damaged copy that is accepted",
                 library::check(&bytes) == 0,
             );
-            compare_accepted(&read.sheet, report);
+            compare_accepted(&read.sheet, &bytes, report);
         }
         Err(refusal) => {
             report.damaged(seed, refusal.number);
             let number = u64::from(refusal.number);
             report.compared("a damaged copy's number", library::check(&bytes) == number);
+            entries::compare_refused(&bytes, refusal.number, report);
         }
     }
 }
@@ -130,6 +133,7 @@ fn main() -> ExitCode {
         }
     };
     let mut report = Report::default();
+    pieces::compare_minus_zero(&mut report);
     for seed in options.first..options.first.saturating_add(options.sheets) {
         compare_sheet(seed, &mut report);
     }

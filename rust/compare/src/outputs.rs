@@ -26,9 +26,27 @@ pub fn agree(expected: &[u8], no_room: u64, call: impl Fn(&mut [u8]) -> u64) -> 
         })
 }
 
+/// Whether a call answers `number` and leaves outputs of several lengths as they were.
+pub fn refused(number: u64, call: impl Fn(&mut [u8]) -> u64) -> bool {
+    [0, 1, 26, 2_000].into_iter().all(|size| {
+        let mut out = vec![BEFORE; size];
+        call(&mut out) == number && out.iter().all(|byte| *byte == BEFORE)
+    })
+}
+
 #[cfg(test)]
 mod tests {
-    use super::agree;
+    use super::{agree, refused};
+
+    #[test]
+    fn a_refusal_leaves_the_output() {
+        assert!(refused(7, |_| 7));
+        assert!(!refused(7, |_| 8));
+        assert!(!refused(7, |out| {
+            out.fill(0);
+            7
+        }));
+    }
 
     fn honest(out: &mut [u8]) -> u64 {
         if out.len() < 2 {

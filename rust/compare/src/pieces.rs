@@ -6,12 +6,12 @@ use crate::report::Report;
 use oracle::analysis::{estimate_of, estimate_values, scalar_of};
 use oracle::pieces;
 use oracle::statistics::EncodedScalarValue;
-use sheet::values::{Estimate, Expression, Scalar, Sheet};
-use sheet::writer::{estimate_bytes, scalar_bytes};
+use sheet::values::{Column, Estimate, Expression, Scalar, Sheet};
+use sheet::writer::{column_bytes, estimate_bytes, scalar_bytes};
 use std::cmp::Ordering;
 
-/// At most so many scalars of a sheet are compared with each other.
-const SCALARS: usize = 16;
+/// At most so many scalars of a sheet, or columns of a side, are compared with each other.
+const SOME: usize = 16;
 
 /// A sheet's scalars, in its order.
 pub fn scalars(sheet: &Sheet) -> Vec<Scalar> {
@@ -53,9 +53,9 @@ fn estimates(sheet: &Sheet) -> Vec<Estimate> {
 }
 
 /// The first few from either end and from between.
-fn some<T: Copy>(all: &[T]) -> Vec<T> {
-    let step = all.len().div_ceil(SCALARS).max(1);
-    all.iter().step_by(step).copied().collect()
+fn some<T: Clone>(all: &[T]) -> Vec<T> {
+    let step = all.len().div_ceil(SOME).max(1);
+    all.iter().step_by(step).cloned().collect()
 }
 
 fn order_number(order: Option<Ordering>) -> u64 {
@@ -103,6 +103,54 @@ fn compare_scalars(sheet: &Sheet, report: &mut Report) {
     }
 }
 
+fn bounds(column: &Column) -> Option<[Scalar; 2]> {
+    Some([column.lower?, column.upper?])
+}
+
+/// The part of one range that another's ends mark off, whether or not they overlap.
+fn compare_fraction(range: [Scalar; 2], overlap: [Scalar; 2], report: &mut Report) {
+    let all = [range[0], range[1], overlap[0], overlap[1]];
+    let values = all.map(|scalar| scalar_of(&scalar));
+    let bytes = all.map(|scalar| scalar_bytes(Some(&scalar)));
+    let expected = pieces::fraction(values.each_ref());
+    let answer = library::fraction(bytes.each_ref().map(|bytes| bytes.as_slice()));
+    report.compared("scalar_interval_fraction", same(answer, expected));
+}
+
+fn compare_columns(left: &Column, right: &Column, report: &mut Report) {
+    let (distinct, disjoint) = pieces::intersection(left, right);
+    let answer = library::intersection(
+        &column_bytes(left),
+        &column_bytes(right),
+        [left.distinct.value, right.distinct.value],
+    );
+    let agrees = answer.0.to_bits() == distinct.to_bits() && answer.1 == disjoint;
+    report.compared("estimated_distinct_intersection", agrees);
+    if let (Some(left), Some(right)) = (bounds(left), bounds(right)) {
+        compare_fraction(left, right, report);
+        compare_fraction(right, left, report);
+    }
+}
+
+fn compare_ranges(sheet: &Sheet, report: &mut Report) {
+    let [left, right] = &sheet.columns;
+    for left in some(left) {
+        for right in some(right) {
+            compare_columns(&left, &right, report);
+        }
+    }
+}
+
+/// What no sheet asks: decimals 1..0 with the overlap 0..0, of which the source makes -0.
+pub fn compare_minus_zero(report: &mut Report) {
+    let decimal = |value| Scalar::Decimal128 {
+        precision: 10,
+        scale: 0,
+        value,
+    };
+    compare_fraction([decimal(1), decimal(0)], [decimal(0); 2], report);
+}
+
 fn compare_estimates(sheet: &Sheet, report: &mut Report) {
     let all = estimates(sheet);
     for pair in all.windows(2) {
@@ -143,5 +191,6 @@ pub fn compare_powers(taken: &[(f64, f64)], report: &mut Report) {
 
 pub fn compare(sheet: &Sheet, report: &mut Report) {
     compare_scalars(sheet, report);
+    compare_ranges(sheet, report);
     compare_estimates(sheet, report);
 }

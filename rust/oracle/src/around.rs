@@ -466,3 +466,27 @@ pub fn larger(left: &Estimate, right: &Estimate) -> Estimate {
 pub fn smaller(left: &Estimate, right: &Estimate) -> Estimate {
     left.min_by_value(right.clone())
 }
+
+/// `scalar_interval_fraction`, which is private to its file.
+pub fn fraction(of: [&ScalarValue; 4]) -> Option<f64> {
+    scalar_interval_fraction(of[0], of[1], of[2], of[3])
+}
+
+/// `estimated_distinct_intersection`, which is private to its file, of two columns: how many values
+/// they share, and whether their ranges are disjoint. A column's sketch has no part in it.
+pub fn intersection(left: &values::Column, right: &values::Column) -> (f64, bool) {
+    let without_sketch = |column: &values::Column| {
+        let column = values::Column {
+            sketch: None,
+            ..column.clone()
+        };
+        column_profile(&column, &[])
+    };
+    let shared = estimated_distinct_intersection(
+        &without_sketch(left),
+        &without_sketch(right),
+        left.distinct.value,
+        right.distinct.value,
+    );
+    (shared.distinct, shared.domains_disjoint)
+}

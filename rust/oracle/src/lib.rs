@@ -53,6 +53,7 @@ pub mod copies {
 pub mod pieces {
     use crate::ScalarValue;
     use crate::analysis::{self, Estimate};
+    use sheet::values::Column;
     use std::cmp::Ordering;
 
     pub fn order(left: &ScalarValue, right: &ScalarValue) -> Option<Ordering> {
@@ -61,6 +62,14 @@ pub mod pieces {
 
     pub fn number(value: &ScalarValue) -> Option<f64> {
         analysis::number(value)
+    }
+
+    pub fn fraction(of: [&ScalarValue; 4]) -> Option<f64> {
+        analysis::fraction(of)
+    }
+
+    pub fn intersection(left: &Column, right: &Column) -> (f64, bool) {
+        analysis::intersection(left, right)
     }
 
     pub fn larger(left: &Estimate, right: &Estimate) -> Estimate {

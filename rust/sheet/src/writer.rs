@@ -32,6 +32,13 @@ pub fn fields(sheet: &Sheet) -> Vec<Field> {
     notes.fields
 }
 
+/// The bytes of a column's record.
+pub fn column_bytes(of: &Column) -> Vec<u8> {
+    let mut bytes = Bytes(Vec::new());
+    column(&mut bytes, Place::section(Section::LeftColumns), of);
+    bytes.0
+}
+
 /// A scalar with its zeros behind it; `None` is the absent one. A float keeps its bits as they are.
 pub fn scalar_bytes(s: Option<&Scalar>) -> [u8; SCALAR_SIZE] {
     let mut out = [0; SCALAR_SIZE];

@@ -232,8 +232,8 @@ fn lines(commands: &[[u8; 32]]) -> Vec<String> {
         ("prefixes", prefixes),
         ("stores", of_kind(STORE_SHEET) + of_kind(STORE_ANSWER)),
         ("joins, answers not compared yet", of_kind(JOIN)),
-        ("predicates, answers not compared yet", of_kind(PREDICATE)),
-        ("splits, answers not compared yet", of_kind(SPLIT)),
+        ("predicates", of_kind(PREDICATE)),
+        ("splits", of_kind(SPLIT)),
         (
             "unknown",
             counted(&|c| !(STORE_SHEET..=SPLIT).contains(&c[0])),

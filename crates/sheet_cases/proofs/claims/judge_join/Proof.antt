@@ -1,10 +1,10 @@
--- `judge_answer` meets its contract: each arm returns what `cond` picks. Assumes nothing.
+-- `judge_join` meets its contract: each arm returns what `cond` picks. Assumes nothing.
 use mathlib.Core.Path.{sym, _∙_}
 use Rattle.sheet_cases.proofs.PrefixLaws.{whole-sheet}
-use Rattle.sheet_cases.specs.Claims.{judgeAnswer}
+use Rattle.sheet_cases.specs.Claims.{judgeJoin}
 use borrow.Author.Needs.{needs}
-use Rattle.sheet_cases.proofs.claims.judge_answer.Statement.{statement}
-use Rattle.sheet_cases.proofs.claims.judge_answer.Tie as tie
+use Rattle.sheet_cases.proofs.claims.judge_join.Statement.{statement}
+use Rattle.sheet_cases.proofs.claims.judge_join.Tie as tie
 
 answer-fits-requires : tie.Need-answer-fits-requires
 answer-fits-requires c κs = search needs
@@ -31,17 +31,17 @@ unknown-requires : tie.Need-unknown-requires
 unknown-requires c κs = search needs
 
 returns : tie.Need-returns
-unfolding judgeAnswer
+unfolding judgeJoin
 returns c =
     let test = c .before .before .before .before in
     rw (← test .before .answer-fits .ensures, test .if1 .taken, ← c .before .before .before .u32-at .ensures, ← c .before .is-sheet .ensures) (c .one-case .ensures)
 
 returns-2 : tie.Need-returns-2
-unfolding judgeAnswer
+unfolding judgeJoin
 returns-2 c = rw (← c .before .before .answer-fits .ensures, c .before .if1 .left) (c .unknown .ensures)
 
-pub judge-answer-spec : {M : Type 1} → statement M
-judge-answer-spec =
+pub judge-join-spec : {M : Type 1} → statement M
+judge-join-spec =
     tie.close
     (tie.spec
     answer-fits-requires

@@ -1,0 +1,5 @@
+pub mod Literal
+pub mod Columns
+pub mod Unary
+pub mod Binary
+pub mod Cases

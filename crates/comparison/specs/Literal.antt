@@ -1,0 +1,62 @@
+-- `binary_selectivity` of the source's analysis.rs for a column and a literal. Definitions only.
+use Prim.Native.Nat.{ℕ}
+use mathlib.Core.Bool.{Bool, cond}
+use lib.Ieee.{Float, binary64, sub, mul, div}
+use Rattle.float.specs.Order.{f64Zero, f64One, f64Max}
+use Rattle.float.specs.declared.option.OptionF64.{OptionF64}
+use Rattle.scalar.specs.Types.{isNull}
+use Rattle.scalar.specs.declared.Scalar.{Scalar}
+use Rattle.estimate.specs.Estimates.{exact}
+use Rattle.estimate.specs.declared.Estimate.{Estimate}
+use Rattle.records.specs.declared.columns.ColumnProfile.{ColumnProfile}
+use Rattle.records.specs.declared.expressions.BinaryOp.{BinaryOp}
+use Rattle.records.specs.declared.expressions.BinaryOp.the-variants.{Eq, IsNotDistinctFrom, NotEq, Lt, LtEq, Gt, GtEq, Add, Subtract, Multiply, Divide}
+use Rattle.sheet.specs.Sheet.{Sheet}
+use Rattle.sketch.specs.Frequent.{frequentValueSelectivity}
+use Rattle.lookup.specs.Lookup.{profileAndRows}
+use Rattle.lookup.specs.declared.profiles.ProfileAndRows.{ProfileAndRows}
+use Rattle.lookup.specs.declared.profiles.ProfileAndRows.the-variants.{Absent, Present}
+use Rattle.range.specs.Selectivity.{unitEstimate, defaultEstimate, nonNullFraction}
+use Rattle.range.specs.Range.{rangeSelectivity}
+
+-- the sketch's figure where it has one; otherwise one of the distinct values
+abbrev pub equalitySelectivity : OptionF64 → Float → Float → Float
+equalitySelectivity frequent nonNull distinct = cond (frequent .present) (frequent .number) (div binary64 nonNull (f64Max distinct f64One))
+
+abbrev pub rangePart : Sheet → ColumnProfile → Scalar → BinaryOp → Float → Estimate
+rangePart sheet profile literal op nonNull =
+    unitEstimate (mul binary64 (rangeSelectivity profile literal op (sheet .settings .«range_fallback_selectivity») .value) nonNull)
+
+unfoldable pub comparisonSelectivity : Sheet → ColumnProfile → Scalar → BinaryOp → Float → Float → Estimate
+unfolding unitEstimate defaultEstimate rangeSelectivity
+comparisonSelectivity sheet profile literal Eq nonNull equality = unitEstimate equality
+comparisonSelectivity sheet profile literal IsNotDistinctFrom nonNull equality = defaultEstimate sheet
+comparisonSelectivity sheet profile literal NotEq nonNull equality = unitEstimate (f64Max (sub binary64 nonNull equality) f64Zero)
+comparisonSelectivity sheet profile literal Lt nonNull equality = rangePart sheet profile literal Lt nonNull
+comparisonSelectivity sheet profile literal LtEq nonNull equality = rangePart sheet profile literal LtEq nonNull
+comparisonSelectivity sheet profile literal Gt nonNull equality = rangePart sheet profile literal Gt nonNull
+comparisonSelectivity sheet profile literal GtEq nonNull equality = rangePart sheet profile literal GtEq nonNull
+comparisonSelectivity sheet profile literal Add nonNull equality = defaultEstimate sheet
+comparisonSelectivity sheet profile literal Subtract nonNull equality = defaultEstimate sheet
+comparisonSelectivity sheet profile literal Multiply nonNull equality = defaultEstimate sheet
+comparisonSelectivity sheet profile literal Divide nonNull equality = defaultEstimate sheet
+
+-- Null is never matched, whatever the operator
+abbrev pub unlessNull : Bool → Estimate → Estimate
+unlessNull null compared = cond null (exact f64Zero) compared
+
+unfoldable pub profileSelectivity : Sheet → ColumnProfile → Float → Scalar → BinaryOp → Estimate
+unfolding exact nonNullFraction frequentValueSelectivity comparisonSelectivity
+profileSelectivity sheet profile rows literal op =
+    let nonNull = nonNullFraction (profile .frequency .value) rows in
+    let equality = equalitySelectivity (frequentValueSelectivity (sheet .sketches) profile literal) nonNull (profile .distinct .value) in
+    unlessNull (isNull literal) (comparisonSelectivity sheet profile literal op nonNull equality)
+
+abbrev pub foundSelectivity : Sheet → ProfileAndRows → Scalar → BinaryOp → Estimate
+foundSelectivity sheet Absent literal op = defaultEstimate sheet
+foundSelectivity sheet (Present profile rows) literal op = profileSelectivity sheet profile rows literal op
+
+-- a column in neither profile gives the default, also against Null
+unfoldable pub literalSelectivity : Sheet → ℕ → Scalar → BinaryOp → Estimate
+unfolding defaultEstimate profileAndRows profileSelectivity
+literalSelectivity sheet column literal op = foundSelectivity sheet (profileAndRows sheet column) literal op

@@ -1,0 +1,16 @@
+-- The answer of a split: how many conjuncts, then their numbers. Definitions only.
+use Prim.Native.Nat.{ℕ}
+use mathlib.Core.List.{List, _++_}
+use lib.ListN.{length}
+use Rattle.le.specs.Fields.{fieldBytes, u16Bytes}
+use Rattle.sheet.specs.Sheet.{Sheet}
+use Rattle.split.specs.Conjuncts.{numbersBytes, conjuncts}
+use Rattle.estimates.specs.Answers.{Result, expressionResult}
+
+unfoldable pub splitBytes : Sheet → ℕ → List ℕ
+unfolding fieldBytes numbersBytes conjuncts
+splitBytes sheet e = u16Bytes (length (conjuncts sheet e)) ++ numbersBytes (conjuncts sheet e)
+
+unfoldable pub splitResult : List ℕ → ℕ → Result
+unfolding expressionResult splitBytes
+splitResult s e = expressionResult s e splitBytes

@@ -1,0 +1,3 @@
+pub mod ContinuousLaws
+pub mod RangeFractionLaws
+pub mod DistinctLaws

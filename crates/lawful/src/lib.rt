@@ -1,0 +1,1 @@
+// No code: what holds of the records of every accepted sheet stands in specs/ and proofs/.

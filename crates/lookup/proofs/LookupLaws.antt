@@ -1,0 +1,147 @@
+-- What is looked up in a sheet's lists, by where it stands in the bytes. Assumes nothing.
+use Prim.Native.Nat.{ℕ, zero, suc, _+_, _-_, _*_, _≤_, _<_, min}
+use mathlib.Core.Path.{_≡_, refl, sym, ap, _∙_}
+use mathlib.Core.Bool.{Bool, cond}
+use mathlib.Core.List.{List, _∷_}
+use native.Mathlib.Omega.{arith}
+use native.Mathlib.Nat.{add-zero, zero-add, sub-zero}
+use borrow.Author.Tests.{eq-eqb, ne-eqb}
+use lib.Dec.{eqb}
+use lib.Ieee.{Float}
+use lib.ListN.{length, take, drop, List·getD-eq-default}
+use Rattle.le.specs.Fields.{u16At}
+use Rattle.records.specs.Lists.{tabulateFrom}
+use Rattle.records.specs.Columns.{columnProfileAt}
+use Rattle.records.specs.Expressions.{expressionAt}
+use Rattle.records.specs.declared.columns.ColumnProfile.{ColumnProfile}
+use Rattle.records.specs.declared.expressions.Expression.the-variants.{Other}
+use Rattle.records.proofs.ListLaws.{tabulate-alike, tabulate-step, tabulate-end}
+use Rattle.sheet.specs.Sheet.{recordIn, recordsIn, sheetOf}
+use Rattle.sheet.specs.declared.Sections.{Sections}
+use Rattle.sheet.specs.declared.order.Kind.the-variants.{Columns, Expressions, Operands}
+use Rattle.sheet.proofs.PlaceLaws.{columns-fixed, expressions-fixed, operands-fixed, fixed-place}
+use Rattle.sheet.proofs.SheetLaws.{records-length, fixed-record-at}
+use Rattle.lookup.specs.Lookup.{expressionOf, operandIn, operandsOf, profileIn, orElseProfile, profileAndRows}
+use Rattle.lookup.specs.declared.profiles.ProfileAndRows.{ProfileAndRows}
+use Rattle.lookup.specs.declared.profiles.ProfileAndRows.the-variants.{Absent, Present}
+
+-- ---- expressions
+
+module _ (s : List ℕ) (q : Sections) where
+  pub expressions-length : u16At s (q .expressions) ≡ length (sheetOf s q .expressions)
+  unfolding sheetOf
+  expressions-length = sym (records-length Expressions expressionAt s (q .expressions))
+
+  pub expression-found : (e : ℕ) → e < length (sheetOf s q .expressions) → expressionAt s (q .expressions + 2 + 25 * e) ≡ expressionOf (sheetOf s q) e
+  unfolding sheetOf
+  expression-found e h =
+      let l = records-length Expressions expressionAt s (q .expressions) in
+      let below : e < u16At s (q .expressions) = omega arith in
+      sym (fixed-record-at Expressions expressionAt s (q .expressions) 25 expressions-fixed e Other below)
+
+  pub expression-missing : (e : ℕ) → length (sheetOf s q .expressions) ≤ e → Other ≡ expressionOf (sheetOf s q) e
+  expression-missing e h = sym (List·getD-eq-default (sheetOf s q .expressions) Other h)
+
+  -- ---- operands
+
+  pub operands-length : u16At s (q .operands) ≡ length (sheetOf s q .operands)
+  unfolding sheetOf
+  operands-length = sym (records-length Operands u16At s (q .operands))
+
+drop-from : (f : ℕ → ℕ) (i n k : ℕ) → drop k (tabulateFrom f i n) ≡ tabulateFrom f (i + k) (n - k)
+unfolding tabulateFrom
+drop-from f i n zero = rw (add-zero i, sub-zero n) refl
+drop-from f i zero (suc k) = ap (tabulateFrom f (i + suc k)) (none k)
+  where
+    none : (k : ℕ) → 0 ≡ 0 - suc k
+    none k = omega arith
+drop-from f i (suc n) (suc k) = drop-from f (i + 1) n k ∙ ap (λ (j : ℕ). tabulateFrom f j (n - k)) (shift i k) ∙ ap (tabulateFrom f (i + suc k)) (less n k)
+  where
+    less : (n k : ℕ) → n - k ≡ suc n - suc k
+    less n k = omega arith
+
+    shift : (i k : ℕ) → i + 1 + k ≡ i + suc k
+    shift i k = omega arith
+
+take-from : (f : ℕ → ℕ) (i n c : ℕ) → take c (tabulateFrom f i n) ≡ tabulateFrom f i (min c n)
+unfolding tabulateFrom
+take-from f i n zero = ap (tabulateFrom f i) (none n)
+  where
+    none : (n : ℕ) → 0 ≡ min 0 n
+    none n = omega arith
+take-from f i zero (suc c) = ap (tabulateFrom f i) (none c)
+  where
+    none : (c : ℕ) → 0 ≡ min (suc c) 0
+    none c = omega arith
+take-from f i (suc n) (suc c) = ap (_∷_ (f i)) (take-from f (i + 1) n c) ∙ ap (tabulateFrom f i) (one c n)
+  where
+    one : (c n : ℕ) → suc (min c n) ≡ min (suc c) (suc n)
+    one c n = omega arith
+
+-- the operands of a run, one by one
+pub operands-from : (s : List ℕ) (q : Sections) (first count : ℕ) → operandsOf (sheetOf s q) first count ≡ tabulateFrom (operandIn s (q .operands)) first (min (first + count) (length (sheetOf s q .operands)) - first)
+unfolding sheetOf recordsIn
+operands-from s q first count =
+    let start = q .operands in
+    let n = u16At s start in
+    let f = operandIn s start in
+    ap (λ (l : List ℕ). take count (drop first l)) (tabulate-alike (recordIn Operands u16At s start) f n (λ i l. ap (u16At s) (fixed-place Operands 2 operands-fixed s start i)))
+    ∙ ap (take count) (drop-from f 0 n first)
+    ∙ take-from f (0 + first) (n - first) count
+    ∙ ap (λ (i : ℕ). tabulateFrom f i (min count (n - first))) (zero-add first)
+    ∙ ap (tabulateFrom f first) (rest first count n (length (sheetOf s q .operands)) (operands-length s q))
+  where
+    rest : (first count n m : ℕ) → n ≡ m → min count (n - first) ≡ min (first + count) m - first
+    rest first count n m e = omega arith
+
+-- ---- columns, where the loop that looks for one stands at the i-th of n
+
+module _ (s : List ℕ) (start : ℕ) (rows : Float) (column : ℕ) where
+  -- those from the i-th on
+  abbrev pub ProfileRest : ℕ → Type 0
+  ProfileRest i = profileIn rows column (tabulateFrom (recordIn Columns columnProfileAt s start) i (u16At s start - i)) ≡ profileIn rows column (recordsIn Columns columnProfileAt s start)
+
+  more : (i : ℕ) → i < u16At s start → ProfileRest i
+      → cond (eqb (u16At s (start + 2 + 98 * i)) column) (Present (columnProfileAt s (start + 2 + 98 * i)) rows) (profileIn rows column (tabulateFrom (recordIn Columns columnProfileAt s start) (i + 1) (u16At s start - (i + 1))))
+      ≡ profileIn rows column (recordsIn Columns columnProfileAt s start)
+  unfolding profileIn columnProfileAt
+  more i h rest =
+      let place = sym (fixed-place Columns 98 columns-fixed s start i) in
+      ap (λ (at : ℕ). cond (eqb (u16At s at) column) (Present (columnProfileAt s at) rows) (profileIn rows column (tabulateFrom (recordIn Columns columnProfileAt s start) (i + 1) (u16At s start - (i + 1))))) place
+      ∙ ap (profileIn rows column) (sym (tabulate-step (recordIn Columns columnProfileAt s start) i (u16At s start) h))
+      ∙ rest
+
+  pub profile-first : ProfileRest 0
+  unfolding recordsIn
+  profile-first = rw (sub-zero (u16At s start)) refl
+
+  pub profile-next : (i : ℕ) → i < u16At s start → (u16At s (start + 2 + 98 * i) ≡ column → ⊥) → ProfileRest i → ProfileRest (i + 1)
+  profile-next i h ne rest =
+      ap (λ (b : Bool). cond b (Present (columnProfileAt s (start + 2 + 98 * i)) rows) (profileIn rows column (tabulateFrom (recordIn Columns columnProfileAt s start) (i + 1) (u16At s start - (i + 1))))) (sym (ne-eqb _ _ ne))
+      ∙ more i h rest
+
+  pub profile-found : (i : ℕ) → i < u16At s start → u16At s (start + 2 + 98 * i) ≡ column → ProfileRest i → Present (columnProfileAt s (start + 2 + 98 * i)) rows ≡ profileIn rows column (recordsIn Columns columnProfileAt s start)
+  profile-found i h e rest =
+      ap (λ (b : Bool). cond b (Present (columnProfileAt s (start + 2 + 98 * i)) rows) (profileIn rows column (tabulateFrom (recordIn Columns columnProfileAt s start) (i + 1) (u16At s start - (i + 1))))) (sym (eq-eqb _ _ e))
+      ∙ more i h rest
+
+  pub profile-none : (i : ℕ) → u16At s start ≤ i → ProfileRest i → Absent ≡ profileIn rows column (recordsIn Columns columnProfileAt s start)
+  unfolding profileIn
+  profile-none i h rest = ap (profileIn rows column) (sym (tabulate-end (recordIn Columns columnProfileAt s start) i (u16At s start) h)) ∙ rest
+
+-- ---- the left side's profile, and the right side's where there is none
+
+module _ (s : List ℕ) (q : Sections) (column : ℕ) (rows : Float) (x : ProfileAndRows) where
+  pub profile-left : (p : ColumnProfile) (r : Float) → rows ≡ sheetOf s q .leftRows .value → x ≡ profileIn rows column (recordsIn Columns columnProfileAt s (q .«left_columns»)) → x ≡ Present p r → Present p r ≡ profileAndRows (sheetOf s q) column
+  unfolding profileAndRows sheetOf
+  profile-left p r e f g =
+      let found = ap (λ (z : Float). profileIn z column (recordsIn Columns columnProfileAt s (q .«left_columns»))) (sym e) ∙ sym f ∙ g in
+      sym (ap (λ (y : ProfileAndRows). orElseProfile y (profileIn (sheetOf s q .rightRows .value) column (sheetOf s q .rightColumns))) found)
+
+  pub profile-right : (rightRows : Float) (y : ProfileAndRows) → rows ≡ sheetOf s q .leftRows .value → x ≡ profileIn rows column (recordsIn Columns columnProfileAt s (q .«left_columns»)) → x ≡ Absent
+      → rightRows ≡ sheetOf s q .rightRows .value → y ≡ profileIn rightRows column (recordsIn Columns columnProfileAt s (q .«right_columns»)) → y ≡ profileAndRows (sheetOf s q) column
+  unfolding profileAndRows sheetOf
+  profile-right rightRows y e f g h k =
+      let found = ap (λ (z : Float). profileIn z column (recordsIn Columns columnProfileAt s (q .«left_columns»))) (sym e) ∙ sym f ∙ g in
+      k ∙ ap (λ (z : Float). profileIn z column (recordsIn Columns columnProfileAt s (q .«right_columns»))) h
+      ∙ sym (ap (λ (z : ProfileAndRows). orElseProfile z (profileIn (sheetOf s q .rightRows .value) column (sheetOf s q .rightColumns))) found)

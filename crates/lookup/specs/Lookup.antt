@@ -1,0 +1,44 @@
+-- What a figure looks up in a sheet. Definitions only.
+use Prim.Native.Nat.{ℕ, _+_, _*_}
+use mathlib.Core.Bool.{cond}
+use mathlib.Core.List.{List, [], _∷_}
+use lib.Dec.{eqb}
+use lib.ListN.{getD, take, drop}
+use lib.Ieee.{Float}
+use Rattle.le.specs.Fields.{u16At}
+use Rattle.records.specs.declared.columns.ColumnProfile.{ColumnProfile}
+use Rattle.records.specs.declared.expressions.Expression.{Expression}
+use Rattle.records.specs.declared.expressions.Expression.the-variants.{Other}
+use Rattle.sheet.specs.Sheet.{Sheet}
+use Rattle.lookup.specs.declared.profiles.ProfileAndRows.{ProfileAndRows}
+use Rattle.lookup.specs.declared.profiles.ProfileAndRows.the-variants.{Absent, Present}
+
+-- ---- expressions
+
+abbrev pub expressionOf : Sheet → ℕ → Expression
+expressionOf sheet e = getD (sheet .expressions) e Other
+
+-- operand i, where the operands' count stands at `start`
+abbrev pub operandIn : List ℕ → ℕ → ℕ → ℕ
+operandIn s start i = u16At s (start + 2 + 2 * i)
+
+-- the operands of an n-ary expression, by the place of the first and how many there are
+abbrev pub operandsOf : Sheet → ℕ → ℕ → List ℕ
+operandsOf sheet first count = take count (drop first (sheet .operands))
+
+-- ---- columns
+
+-- a column's profile in one side's list, beside that side's rows
+unfoldable pub profileIn : Float → ℕ → List ColumnProfile → ProfileAndRows
+profileIn rows column [] = Absent
+profileIn rows column (p ∷ ps) = cond (eqb (p .column) column) (Present p rows) (profileIn rows column ps)
+
+abbrev pub orElseProfile : ProfileAndRows → ProfileAndRows → ProfileAndRows
+orElseProfile Absent other = other
+orElseProfile (Present p rows) other = Present p rows
+
+-- the left side's before the right side's
+unfoldable pub profileAndRows : Sheet → ℕ → ProfileAndRows
+unfolding profileIn
+profileAndRows sheet column =
+    orElseProfile (profileIn (sheet .leftRows .value) column (sheet .leftColumns)) (profileIn (sheet .rightRows .value) column (sheet .rightColumns))

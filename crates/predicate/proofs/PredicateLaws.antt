@@ -1,0 +1,68 @@
+-- Laws of predicates: what an expression gives, and the operands of a run one by one. Assumes nothing.
+use Prim.Native.Nat.{ℕ, _+_, _-_, _≤_, _<_, min}
+use mathlib.Core.Path.{_≡_, sym, ap, _∙_}
+use mathlib.Core.List.{List}
+use lib.ListN.{length}
+use lib.Ieee.{Float, binary64, mul}
+use Rattle.float.specs.Order.{f64One}
+use Rattle.estimate.specs.declared.Estimate.{Estimate}
+use Rattle.records.specs.Lists.{tabulateFrom}
+use Rattle.records.specs.declared.expressions.NaryOp.{NaryOp}
+use Rattle.records.specs.declared.expressions.Expression.{Expression}
+use Rattle.records.specs.declared.expressions.Expression.the-variants.{Nary}
+use Rattle.records.proofs.ListLaws.{tabulate-step, tabulate-end}
+use Rattle.sheet.specs.Sheet.{Sheet, sheetOf}
+use Rattle.sheet.specs.declared.Sections.{Sections}
+use Rattle.lookup.specs.Lookup.{expressionOf, operandIn, operandsOf}
+use Rattle.lookup.specs.Recursion.{below, byNumber}
+use Rattle.lookup.proofs.LookupLaws.{operands-from}
+use Rattle.lookup.proofs.RecursionLaws.{below-is, below-not}
+use Rattle.range.specs.Selectivity.{defaultEstimate}
+use Rattle.predicate.specs.Predicate.{operandFactor, operandProduct, naryEstimate, estimateOf, selectivityBy, defaultOf, filterSelectivityForPredicate}
+
+-- what the numbers below one stand for
+abbrev pub estimatesBelow : Sheet → ℕ → ℕ → Estimate
+estimatesBelow sheet = below (selectivityBy sheet) (defaultOf sheet)
+
+-- ---- one expression
+
+pub of-expression : (sheet : Sheet) (e : ℕ) (x y : Expression) → x ≡ expressionOf sheet e → x ≡ y → estimateOf sheet (estimatesBelow sheet e) y ≡ filterSelectivityForPredicate sheet e
+unfolding filterSelectivityForPredicate byNumber selectivityBy
+of-expression sheet e x y at is = ap (estimateOf sheet (estimatesBelow sheet e)) (sym is ∙ at)
+
+pub of-nary : (sheet : Sheet) (e : ℕ) (x : Expression) (op : NaryOp) (first count : ℕ) (product : Float) (r : Estimate) → r ≡ naryEstimate op product → product ≡ operandProduct op (estimatesBelow sheet e) f64One (operandsOf sheet first count)
+    → x ≡ expressionOf sheet e → x ≡ Nary op first count → r ≡ filterSelectivityForPredicate sheet e
+of-nary sheet e x op first count product r f g at is = f ∙ ap (naryEstimate op) g ∙ of-expression sheet e x (Nary op first count) at is
+
+-- ---- an operand, below a limit or not
+
+module _ (sheet : Sheet) (limit o : ℕ) where
+  pub operand-below : o < limit → filterSelectivityForPredicate sheet o ≡ estimatesBelow sheet limit o
+  unfolding filterSelectivityForPredicate
+  operand-below h = below-is (selectivityBy sheet) (defaultOf sheet) limit o h
+
+  pub operand-not-below : limit ≤ o → defaultEstimate sheet ≡ estimatesBelow sheet limit o
+  operand-not-below h = below-not (selectivityBy sheet) (defaultOf sheet) limit o h
+
+-- ---- the operands of a run, where a loop stands at the i-th
+
+module _ (s : List ℕ) (q : Sections) (op : NaryOp) (first count : ℕ) (estimates : ℕ → Estimate) where
+  -- those from the i-th on are still to be multiplied in
+  abbrev pub ProductRest : Float → ℕ → ℕ → Type 0
+  ProductRest product i end =
+      operandProduct op estimates product (tabulateFrom (operandIn s (q .operands)) i (end - i)) ≡ operandProduct op estimates f64One (operandsOf (sheetOf s q) first count)
+
+  pub product-first : (end : ℕ) → end ≡ min (first + count) (length (sheetOf s q .operands)) → ProductRest f64One first end
+  product-first end h = ap (operandProduct op estimates f64One) (ap (λ (m : ℕ). tabulateFrom (operandIn s (q .operands)) first (m - first)) h ∙ sym (operands-from s q first count))
+
+  pub product-next : (product : Float) (i end o : ℕ) (estimate : Estimate) (factor : Float) → i < end → o ≡ operandIn s (q .operands) i → estimate ≡ estimates o → factor ≡ operandFactor op (estimate .value)
+      → ProductRest product i end → ProductRest (mul binary64 product factor) (i + 1) end
+  unfolding operandProduct
+  product-next product i end o estimate factor h e f g rest =
+      ap (λ (x : Float). operandProduct op estimates (mul binary64 product x) (tabulateFrom (operandIn s (q .operands)) (i + 1) (end - (i + 1)))) (g ∙ ap (λ (x : Estimate). operandFactor op (x .value)) (f ∙ ap estimates e))
+      ∙ ap (operandProduct op estimates product) (sym (tabulate-step (operandIn s (q .operands)) i end h))
+      ∙ rest
+
+  pub product-all : (product : Float) (i end : ℕ) → end ≤ i → ProductRest product i end → product ≡ operandProduct op estimates f64One (operandsOf (sheetOf s q) first count)
+  unfolding operandProduct
+  product-all product i end h rest = ap (operandProduct op estimates product) (sym (tabulate-end (operandIn s (q .operands)) i end h)) ∙ rest

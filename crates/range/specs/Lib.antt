@@ -1,0 +1,3 @@
+pub mod Selectivity
+pub mod Range
+pub mod Cases

@@ -1,0 +1,91 @@
+use Prim.Native.Nat.{_-_, _≤_}
+use mathlib.Core.Path.{_≡_, sym, ap, _∙_}
+use native.Mathlib.Omega.{arith}
+use borrow.Author.Needs.{needs}
+use Rattle.records.specs.Sketches.{sketchAt}
+use Rattle.sketch.specs.Frequent.{findItem}
+use Rattle.sketch.proofs.ItemLaws.{itemsFrom, items-all, find-next, find-here, find-none}
+use Rattle.sketch.proofs.items.find_item.Statement.{statement}
+use Rattle.sketch.proofs.items.find_item.Tie as tie
+
+abbrev Inv-loop : tie.InvT-loop
+Inv-loop s at value n i₀ i = (i ≤ n) × (findItem value (itemsFrom s at i n) ≡ findItem value (sketchAt s at .items))
+
+abbrev μ-loop : tie.MeasureT-loop
+μ-loop s at value n i₀ i = n - i
+
+item-count-requires : tie.Need-item-count-requires Inv-loop μ-loop
+item-count-requires c κs = omega arith
+
+cast-n : tie.Need-cast-n Inv-loop μ-loop
+cast-n c = search needs
+
+loop-holds : tie.Need-loop-holds Inv-loop μ-loop
+loop-holds c = (omega arith, ap (findItem _) (items-all _ _ _ (c .item-count .ensures)))
+
+add-item : tie.Need-add-item Inv-loop μ-loop
+add-item c = omega arith
+
+mul-item : tie.Need-mul-item Inv-loop μ-loop
+mul-item c = omega arith
+
+add-item-2 : tie.Need-add-item-2 Inv-loop μ-loop
+add-item-2 c = omega arith
+
+has-value-requires : tie.Need-has-value-requires Inv-loop μ-loop
+has-value-requires c κs = omega arith
+
+add-u64-at : tie.Need-add-u64-at Inv-loop μ-loop
+add-u64-at c = omega arith
+
+u64-at-requires : tie.Need-u64-at-requires Inv-loop μ-loop
+u64-at-requires c κs = omega arith
+
+add-u64-at-2 : tie.Need-add-u64-at-2 Inv-loop μ-loop
+add-u64-at-2 c = omega arith
+
+u64-at-requires-2 : tie.Need-u64-at-requires-2 Inv-loop μ-loop
+u64-at-requires-2 c κs = omega arith
+
+returns : tie.Need-returns Inv-loop μ-loop
+returns c =
+    let f = c .before .before .before in
+    rw (c .before .u64-at .ensures, c .u64-at2 .ensures) (find-here _ _ _ _ _ _ (f .before .before .loop .inv .1) (f .before .loop-test .taken) (sym (f .has-value .ensures) ∙ c .before .before .if1 .taken))
+
+add-i : tie.Need-add-i Inv-loop μ-loop
+add-i c = omega arith
+
+loop-less : tie.Need-loop-less Inv-loop μ-loop
+loop-less c = omega arith
+
+loop-again : tie.Need-loop-again Inv-loop μ-loop
+loop-again c = (
+  omega arith,
+  find-next _ _ _ _ _ _ (c .before .before .before .loop .inv .1) (c .before .before .loop-test .taken) (sym (c .before .has-value .ensures) ∙ c .if1 .left),
+)
+
+returns-2 : tie.Need-returns-2 Inv-loop μ-loop
+returns-2 c = find-none _ _ _ _ _ _ (c .before .loop .inv .1) (c .loop-test .left)
+
+pub find-item-spec : {M : Type 1} → statement M
+find-item-spec =
+    tie.close
+    (tie.spec
+    Inv-loop
+    μ-loop
+    item-count-requires
+    cast-n
+    loop-holds
+    add-item
+    mul-item
+    add-item-2
+    has-value-requires
+    add-u64-at
+    u64-at-requires
+    add-u64-at-2
+    u64-at-requires-2
+    returns
+    add-i
+    loop-less
+    loop-again
+    returns-2)

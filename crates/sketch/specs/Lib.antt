@@ -1,0 +1,2 @@
+pub mod Frequent
+pub mod Cases

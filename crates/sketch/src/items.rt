@@ -1,0 +1,86 @@
+// The items of a sketch, where they stand: at + 10 and on, 35 bytes each.
+ghost use mathlib.Core.Path.{_≡_};
+ghost use Prim.Native.Nat.{_<_, _^_, _-_};
+ghost use lib.ListN.{length};
+ghost use Rattle.scalar.specs.Order.{scalarOrder, isEqual};
+ghost use Rattle.scalar_bytes.specs.Reading.{scalarAt};
+ghost use Rattle.records.specs.Sketches.{sketchAt};
+ghost use Rattle.sketch.specs.Frequent.{findItem, residualRows};
+use le::reads::u16_at;
+use le::reads::u64_at;
+use scalar::Scalar;
+use scalar::order::is_equal;
+use scalar::order::scalar_order;
+use scalar_bytes::reads::scalar_at;
+
+// What a sketch tells of a value: no item has it, or the item's counts.
+pub enum FoundItem {
+    Absent,
+    Present { lower: u64, error: u64 },
+}
+
+pub fn population(s: &[u8], at: usize) -> u64
+    ensures { λ r. ⌜ r ≡ sketchAt (now (s .entry)) at .population ⌝ }
+{
+    u64_at(s, at)
+}
+
+pub fn item_count(s: &[u8], at: usize) -> u16
+    requires { ⌜ at < 2 ^ 60 ⌝ }
+    ensures { λ r. ⌜ r ≡ length (sketchAt (now (s .entry)) at .items) ⌝ }
+{
+    u16_at(s, at + 8)
+}
+
+// Whether the item at a place has this value.
+fn has_value(s: &[u8], item: usize, value: Scalar) -> bool
+    requires { ⌜ item < 2 ^ 60 ⌝ }
+    ensures { λ r. ⌜ r ≡ isEqual (scalarOrder (scalarAt (now (s .entry)) item) value) ⌝ }
+{
+    is_equal(scalar_order(scalar_at(s, item), value))
+}
+
+pub fn find_item(s: &[u8], at: usize, value: Scalar) -> FoundItem
+    requires { ⌜ at < 2 ^ 40 ⌝ }
+    ensures { λ r. ⌜ r ≡ findItem value (sketchAt (now (s .entry)) at .items) ⌝ }
+{
+    let n = item_count(s, at) as usize;
+    let mut i: usize = 0;
+    while i < n {
+        let item = at + 10 + 35 * i;
+        if has_value(s, item, value) {
+            return FoundItem::Present {
+                lower: u64_at(s, item + 19),
+                error: u64_at(s, item + 27),
+            };
+        }
+        i += 1;
+    }
+    FoundItem::Absent
+}
+
+// a - b, or 0 where b is the larger.
+fn minus(a: u64, b: u64) -> u64
+    ensures { λ r. ⌜ r ≡ a - b ⌝ }
+{
+    if a < b {
+        return 0;
+    }
+    a - b
+}
+
+// The rows that no item counts. Item by item they are taken from the population, so no sum is made
+// that could pass 64 bits.
+pub fn residual_rows(s: &[u8], at: usize) -> u64
+    requires { ⌜ at < 2 ^ 40 ⌝ }
+    ensures { λ r. ⌜ r ≡ residualRows (sketchAt (now (s .entry)) at) ⌝ }
+{
+    let n = item_count(s, at) as usize;
+    let mut rows = population(s, at);
+    let mut i: usize = 0;
+    while i < n {
+        rows = minus(rows, u64_at(s, at + 10 + 35 * i + 19));
+        i += 1;
+    }
+    rows
+}

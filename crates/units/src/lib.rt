@@ -1,0 +1,1 @@
+// No code: laws by which figures lie from 0 to 1.
