@@ -1,1 +1,2 @@
 pub mod Predicate
+pub mod Cases

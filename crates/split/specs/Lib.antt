@@ -1,1 +1,2 @@
 pub mod Conjuncts
+pub mod Cases

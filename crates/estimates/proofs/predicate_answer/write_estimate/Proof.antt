@@ -1,5 +1,4 @@
 -- The estimate is written where there is room for 26 bytes; otherwise 12. Assumes nothing.
-use mathlib.Core.Path.{sym}
 use native.Mathlib.Omega.{arith}
 use borrow.Author.Needs.{needs}
 use Rattle.estimates.proofs.PredicateLaws.{predicate-length, predicate-written}
@@ -20,7 +19,9 @@ same-length c = search needs
 returns : tie.Need-returns
 returns c =
     let args = c .before .before .before .before .before .before .before .before .args in
-    fitting _ (args .out .now) _ _ (sym (predicate-length _ _)) (c .before .before .before .before .before .if1 .taken) (predicate-written (sheetOf (args .s .now) (args .q)) (args .e) _ _ _ (c .before .before .before .filter-selectivity-for-predicate .ensures) (c .before .before .put-estimate .ensures))
+    let l = predicate-length (sheetOf (args .s .now) (args .q)) (args .e) in
+    fitting _ (args .out .now) _ _ (omega arith) (omega arith)
+    (predicate-written (sheetOf (args .s .now) (args .q)) (args .e) _ _ _ (c .before .before .before .filter-selectivity-for-predicate .ensures) (c .before .before .put-estimate .ensures))
 
 returns-2 : tie.Need-returns-2
 returns-2 c = let l = predicate-length (sheetOf (c .before .before .before .args .s .now) (c .before .before .before .args .q)) (c .before .before .before .args .e) in too-short _ _ (omega arith)
