@@ -37,7 +37,7 @@ foundColumns sheet nullSafe same Absent right = defaultEstimate sheet
 foundColumns sheet nullSafe same (Present left leftRows) Absent = defaultEstimate sheet
 foundColumns sheet nullSafe same (Present left leftRows) (Present right rightRows) = profilesSelectivity nullSafe same left leftRows right rightRows
 
--- a column in neither profile gives the default
+-- the default where either column has no profile
 unfoldable pub columnsSelectivity : Sheet → Bool → ℕ → ℕ → Estimate
 unfolding defaultEstimate profileAndRows profilesSelectivity
 columnsSelectivity sheet nullSafe left right = foundColumns sheet nullSafe (eqb left right) (profileAndRows sheet left) (profileAndRows sheet right)

@@ -56,7 +56,7 @@ abbrev pub foundSelectivity : Sheet → ProfileAndRows → Scalar → BinaryOp �
 foundSelectivity sheet Absent literal op = defaultEstimate sheet
 foundSelectivity sheet (Present profile rows) literal op = profileSelectivity sheet profile rows literal op
 
--- a column in neither profile gives the default, also against Null
+-- the default where the column has no profile, also against Null
 unfoldable pub literalSelectivity : Sheet → ℕ → Scalar → BinaryOp → Estimate
 unfolding defaultEstimate profileAndRows profileSelectivity
 literalSelectivity sheet column literal op = foundSelectivity sheet (profileAndRows sheet column) literal op

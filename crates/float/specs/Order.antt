@@ -2,7 +2,7 @@
 use mathlib.Core.Bool.{Bool, true, false, not, cond}
 use lib.Dec.{T, ltb}
 use lib.IntN.{pos}
-use lib.Ieee.{Float, nan, inf, fin, binary64, fits, lt, le}
+use lib.Ieee.{Float, nan, inf, fin, binary64, fits, lt, le, neg}
 
 abbrev pub f64Max : Float → Float → Float
 f64Max x y = cond (lt x y) y x
@@ -18,6 +18,10 @@ f64One = fin false 1 (pos 0)
 
 abbrev pub clampUnit : Float → Float
 clampUnit x = cond (lt x f64Zero) f64Zero (cond (lt f64One x) f64One x)
+
+-- without its sign; -0 stays as it is
+abbrev pub absolute : Float → Float
+absolute x = cond (lt x f64Zero) (neg x) x
 
 -- finite, with the sign clear
 abbrev pub nonneg : Float → Bool

@@ -12,7 +12,8 @@ use Rattle.units.specs.Sizes.{UpTo, AtLeast, Spread, Tame}
 use Rattle.units.proofs.SizeLaws.{at-least-positive}
 use Rattle.units.proofs.SpreadLaws.{spread-max-zero, div-spread, spread-clamped}
 use Rattle.units.proofs.TameLaws.{tame-difference}
-use Rattle.interval.specs.Fraction.{isFinite, continuous}
+use lib.Ieee.Scale.{finite}
+use Rattle.interval.specs.Fraction.{continuous}
 use Rattle.interval.specs.declared.fraction.IntervalFraction.the-variants.{NoFraction, Fraction}
 use Rattle.interval.proofs.FractionLaws.{InUnit}
 
@@ -52,5 +53,5 @@ pub continuous-unit : (lower upper overlapLower overlapUpper : Float) → Tame l
 unfolding continuous
 continuous-unit l u ol ou a b c d =
     let w = sub binary64 u l in
-    by-tests (clampUnit (div binary64 (sub binary64 ou ol) w)) (isFinite w) (lt w f64Zero) (eq w f64Zero)
+    by-tests (clampUnit (div binary64 (sub binary64 ou ol) w)) (finite w) (lt w f64Zero) (eq w f64Zero)
     (share-unit (sub binary64 ou ol) w (tame-difference ou ol d c) (tame-difference u l b a))

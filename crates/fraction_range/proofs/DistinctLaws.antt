@@ -1,5 +1,5 @@
 -- How many distinct values two columns share: a number from 0 to the larger of 1 and the smaller distinct, and not -0, where the bounds and the distincts are such as a sheet may hold. Assumes nothing.
-use mathlib.Core.Path.{_≡_, refl, sym, subst}
+use mathlib.Core.Path.{_≡_, refl}
 use mathlib.Core.Bool.{Bool, true, false, cond, _||_}
 use Prim.Native.Nat.{_*_}
 use native.Mathlib.Nat as Nat
@@ -18,6 +18,7 @@ use Rattle.scalar_bytes.specs.Encoding.{lawfulScalar, lawfulBound}
 use Rattle.estimate.specs.Bytes.{LawfulFigure}
 use Rattle.records.specs.declared.columns.ColumnProfile.{ColumnProfile}
 use Rattle.units.specs.Sizes.{UpTo}
+use Rattle.units.proofs.ScalarLaws.{holds}
 use Rattle.units.proofs.SizeLaws.{le-up-to, up-to-le, unit-up-to, zero-up-to, one-up-to, max-up-to, mul-up-to}
 use Rattle.units.proofs.FigureLaws.{figure-up-to}
 use Rattle.interval.specs.Fraction.{scalarIntervalFraction}
@@ -30,9 +31,6 @@ use Rattle.fraction_range.specs.Distinct.{LawfulBounds, DistinctWithin}
 use Rattle.fraction_range.proofs.RangeFractionLaws.{left-unit, right-unit}
 
 -- ---- the smaller and the larger of two
-holds : (b : Bool) → b ≡ true → T b
-holds b e = subst T (sym e) tt
-
 le-own : (x : Float) → T (nonneg x) → T (le x x)
 le-own x p = cross-le x x p p (Nat.le-refl (num x * den x))
 

@@ -1,16 +1,11 @@
 -- The two fractions that `estimated_distinct_intersection` takes of ranges whose ends a sheet may hold lie from 0 to 1 and are not -0, of whatever types the ends are. Assumes nothing.
-use Prim.Native.Nat.{ℕ, _^_, _<_}
+use Prim.Native.Nat.{ℕ}
 use mathlib.Core.Path.{_≡_, refl, sym, _∙_, subst}
 use mathlib.Core.Bool.{Bool, true, false, cond, _&&_, true≢false}
-use native.Mathlib.Nat as Nat
 use borrow.Author.Tests.{eq-eqb, eqb-true}
-use lib.Dec.{T, eqb, leb, ltb→lt, lit≤}
-use lib.IntN.{ℤ}
-use lib.Signed.{mag}
+use lib.Dec.{eqb, leb, lit≤}
 use lib.Ieee.{binary64, fits}
 use lib.Ieee.Fits.{and-l, and-r}
-use Rattle.float.specs.Order.{f64Zero}
-use Rattle.float.proofs.UnitLaws.{zero-unit}
 use Rattle.scalar.specs.Types.{scalarType}
 use Rattle.scalar.specs.Order.{scalarOrder, isLess, isGreater, scalarIntegers, scalarFloat}
 use Rattle.scalar.specs.declared.Scalar.{Scalar}
@@ -18,6 +13,7 @@ use Rattle.scalar.specs.declared.Scalar.the-variants.{Null, Boolean, Int32, Int
 use Rattle.scalar_bytes.specs.Reading.{float64Lawful}
 use Rattle.scalar_bytes.specs.Encoding.{in32, in64, lawfulScalar}
 use Rattle.units.specs.Sizes.{Tame}
+use Rattle.units.proofs.ScalarLaws.{zero-tame, holds, narrow, wide}
 use Rattle.interval.specs.Fraction.{sameTypes, typedFraction, scalarIntervalFraction}
 use Rattle.interval.specs.Intersection.{overlapLower, overlapUpper}
 use Rattle.interval.specs.declared.fraction.IntervalFraction.{IntervalFraction}
@@ -26,15 +22,6 @@ use Rattle.interval.proofs.FractionLaws.{InUnit, Whole64, left-fraction, right-
 use Rattle.fraction_range.proofs.ContinuousLaws.{continuous-unit}
 
 -- ---- the numbers of a scalar that a sheet may hold; 0 stands where there is none
-holds : (b : Bool) → b ≡ true → T b
-holds b e = subst T (sym e) tt
-
-narrow : (z : ℤ) → T (in32 z) → mag z < 2 ^ 63
-narrow z h = Nat.le-trans (ltb→lt (mag z) (2 ^ 31) h) (lit≤ tt)
-
-wide : (z : ℤ) → T (in64 z) → mag z < 2 ^ 63
-wide z h = ltb→lt (mag z) (2 ^ 63) h
-
 pub whole-64 : (x : Scalar) → lawfulScalar x ≡ true → Whole64 x
 unfolding lawfulScalar scalarIntegers
 whole-64 Null h = lit≤ tt
@@ -47,9 +34,6 @@ whole-64 (Decimal128 value precision scale) h = wide value (and-l (in64 value) (
 whole-64 (Date32 x) h = narrow x (holds (in32 x) h)
 whole-64 (IntervalMonthDayNano months days nanoseconds) h = narrow months (and-l (in32 months) (in32 days && in64 nanoseconds) (holds _ h))
 whole-64 (IntervalDayTime days milliseconds) h = narrow days (and-l (in32 days) (in32 milliseconds) (holds _ h))
-
-zero-tame : Tame f64Zero
-zero-tame = record { held = zero-unit .held; lawful = tt }
 
 pub float-tame : (x : Scalar) → lawfulScalar x ≡ true → Tame (scalarFloat x)
 unfolding lawfulScalar scalarFloat

@@ -3,18 +3,14 @@ use Prim.Native.Nat.{ℕ, zero, suc}
 use mathlib.Core.Bool.{Bool, true, false, cond, not, _&&_, _||_}
 use lib.Dec.{eqb}
 use lib.IntN.{ℤ, pos, negsuc, _+ℤ_, _-ℤ_}
-use lib.Ieee.{Float, nan, inf, fin, binary64, ofInt, sub, div, lt, eq}
+use lib.Ieee.{Float, binary64, ofInt, sub, div, lt, eq}
+use lib.Ieee.Scale.{finite}
 use Rattle.float.specs.Order.{f64Zero, f64One, clampUnit}
 use Rattle.scalar.specs.Types.{scalarType, sameType}
 use Rattle.scalar.specs.Order.{scalarIntegers, scalarFloat}
 use Rattle.scalar.specs.declared.Scalar.{Scalar}
 use Rattle.interval.specs.declared.fraction.IntervalFraction.{IntervalFraction}
 use Rattle.interval.specs.declared.fraction.IntervalFraction.the-variants.{NoFraction, Fraction}
-
-abbrev pub isFinite : Float → Bool
-isFinite nan = false
-isFinite (inf s) = false
-isFinite (fin s m e) = true
 
 -- whole numbers: both ends count
 unfoldable pub discrete : ℤ → ℤ → ℤ → ℤ → IntervalFraction
@@ -26,7 +22,7 @@ discrete lower upper overlapLower overlapUpper =
 unfoldable pub continuous : Float → Float → Float → Float → IntervalFraction
 continuous lower upper overlapLower overlapUpper =
     let width = sub binary64 upper lower in
-    cond (not (isFinite width) || lt width f64Zero) NoFraction
+    cond (not (finite width) || lt width f64Zero) NoFraction
     (cond (eq width f64Zero) (Fraction f64One)
     (Fraction (clampUnit (div binary64 (sub binary64 overlapUpper overlapLower) width))))
 

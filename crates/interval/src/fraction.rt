@@ -1,6 +1,7 @@
 // scalar_interval_fraction of the source's analysis.rs.
 ghost use mathlib.Core.Path.{_≡_};
-ghost use Rattle.interval.specs.Fraction.{isFinite, discrete, continuous, decimal, isDiscrete, scalarInteger, typedFraction, sameTypes, scalarIntervalFraction};
+ghost use lib.Ieee.Scale.{finite};
+ghost use Rattle.interval.specs.Fraction.{discrete, continuous, decimal, isDiscrete, scalarInteger, typedFraction, sameTypes, scalarIntervalFraction};
 use float::integers::nearest_difference;
 use float::order::clamp_unit;
 use rules::both;
@@ -17,7 +18,7 @@ pub enum IntervalFraction {
 }
 
 fn is_finite(x: f64) -> bool
-    ensures { λ r. ⌜ r ≡ isFinite x ⌝ }
+    ensures { λ r. ⌜ r ≡ finite x ⌝ }
 {
     both(-1.0 / 0.0 < x, x < 1.0 / 0.0)
 }

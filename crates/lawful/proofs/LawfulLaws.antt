@@ -4,12 +4,10 @@ use mathlib.Core.Path.{_≡_, sym, ap, _∙_, subst}
 use mathlib.Core.Bool.{true}
 use mathlib.Core.List.{List}
 use native.Mathlib.Omega.{arith}
-use lib.Dec.{eqb}
 use lib.ListN.{length, getD}
 use borrow.Author.Tests.{leb-true, eqb-true}
 use Rattle.le.specs.Fields.{u16At}
 use Rattle.le.proofs.FieldLaws.{Bytes}
-use Rattle.rules.specs.Rules.{ask}
 use Rattle.rules.proofs.RuleLaws.{ask-kept, else-first, else-second}
 use Rattle.estimate.specs.Bytes.{estimateAt, LawfulEstimate}
 use Rattle.records.specs.Settings.{settingsAt}
@@ -23,16 +21,16 @@ use Rattle.records.specs.declared.expressions.Expression.the-variants.{Nary, Ot
 use Rattle.record_rules.specs.Fields.{whole}
 use Rattle.record_rules.specs.Rows.{settingRefusal}
 use Rattle.record_rules.specs.Columns.{columnRefusal}
-use Rattle.expression_rules.specs.Expressions.{expressionRefusal}
-use Rattle.expression_rules.specs.Operands.{expressionPlace, runsBefore, naryOf, operandRefusal}
+use Rattle.expression_rules.specs.Operands.{expressionPlace, runsBefore}
 use Rattle.expression_rules.proofs.RoomLaws.{conjunct-below}
 use Rattle.sheet.specs.Order.{kindAt, sectionCount, recordAt, sectionAt}
-use Rattle.sheet.specs.Rules.{countWithin, fillRefusal, countRefusal, itemsBefore, recordRefusal}
+use Rattle.sheet.specs.Rules.{countWithin, countRefusal, itemsBefore, recordRefusal}
 use Rattle.sheet.specs.Check.{sheetRefusal}
 use Rattle.sheet.specs.Sheet.{recordsIn, sheetIn}
 use Rattle.sheet.specs.declared.order.Kind.the-variants.{Rows, Settings, Sketches, Columns, Classes, Expressions, Operands, Conjuncts}
 use Rattle.sheet.proofs.PlaceLaws.{fixed-place, settings-fixed, expressions-fixed}
 use Rattle.sheet.proofs.AcceptedLaws.{accepted-count, accepted-record}
+use Rattle.sheet.proofs.OwnerLaws.{accepted-expression, accepted-runs, accepted-operand}
 use Rattle.sheet.proofs.SheetLaws.{records-length, fixed-record-at}
 use Rattle.lawful.specs.Lawful.{Each, LawfulSettings, LawfulSketch, LawfulProfile, LawfulExpression, LawfulRun, LawfulClass, LawfulSheet}
 use Rattle.lawful.proofs.EachLaws.{each-record}
@@ -115,33 +113,18 @@ module _ (s : List ℕ) (bytes : Bytes s) (kept : sheetRefusal s ≡ 0) where
   how-many : length all ≡ u16At s x
   how-many = records-length Expressions expressionAt s x
 
-  expression-kept : (e : ℕ) → e < u16At s x → expressionRefusal s (runsBefore s x e) e (expressionPlace x e) ≡ 0
-  unfolding recordRefusal
-  expression-kept e l = ap (expressionRefusal s (runsBefore s x e) e) (sym (fixed-place Expressions 25 expressions-fixed s x e)) ∙ accepted-record s kept 9 (omega arith) e l
-
   expression-is : (e : ℕ) → e < u16At s x → getD all e Other ≡ expressionAt s (expressionPlace x e)
   expression-is e l = fixed-record-at Expressions expressionAt s x 25 expressions-fixed e Other l
 
   expressions : (e : ℕ) → e < length all → LawfulExpression e (getD all e Other)
   expressions e l =
       let h : e < u16At s x = subst (λ (n : ℕ). e < n) how-many l in
-      subst (LawfulExpression e) (sym (expression-is e h)) (expression-lawful s (runsBefore s x e) e (expressionPlace x e) (expression-kept e h) bytes)
-
-  filled : u16At s (sectionAt s 10) ≡ runsBefore s x (u16At s x)
-  unfolding countRefusal fillRefusal
-  filled =
-      let n : ℕ = u16At s (sectionAt s 10) in
-      let within = else-second (whole 2 s (sectionAt s 10)) _ (accepted-count s kept 10 (omega arith)) in
-      eqb-true n (runsBefore s x (u16At s x)) (ask-kept (eqb n (runsBefore s x (u16At s x))) 9 (omega arith) (else-second (ask (countWithin Operands n) 3) _ within))
-
-  operand-kept : (i : ℕ) → i < u16At s (sectionAt s 10) → operandRefusal s x (naryOf s x i) (sectionAt s 10 + 2) i ≡ 0
-  unfolding recordRefusal
-  operand-kept i l = accepted-record s kept 10 (omega arith) i l
+      subst (LawfulExpression e) (sym (expression-is e h)) (expression-lawful s (runsBefore s x e) e (expressionPlace x e) (accepted-expression s kept e h) bytes)
 
   operands : (e : ℕ) → e < length all → (op : NaryOp) (first count : ℕ) → getD all e Other ≡ Nary op first count → LawfulRun (recordsIn Operands u16At s (sectionAt s 10)) e first count
   operands e l op first count q =
       let h : e < u16At s x = subst (λ (n : ℕ). e < n) how-many l in
-      operands-lawful s x (sectionAt s 10) expression-kept filled operand-kept e h op first count (sym (expression-is e h) ∙ q)
+      operands-lawful s x (sectionAt s 10) (accepted-expression s kept) (accepted-runs s kept) (accepted-operand s kept) e h op first count (sym (expression-is e h) ∙ q)
 
   conjuncts : Each (λ (e : ℕ). e < length all) (recordsIn Conjuncts u16At s (sectionAt s 11))
   unfolding recordRefusal

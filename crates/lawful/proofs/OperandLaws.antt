@@ -29,7 +29,7 @@ runs-grow s x m (suc k) =
     let next : runsBefore s x (m + suc k) ≡ runsBefore s x (m + k) + runLength s (expressionPlace x (m + k)) = ap (runsBefore s x) (add-suc m k) ∙ runs-next s x (m + k) in
     omega arith
 
-runs-rise : (s : List ℕ) (x m n : ℕ) → m ≤ n → runsBefore s x m ≤ runsBefore s x n
+pub runs-rise : (s : List ℕ) (x m n : ℕ) → m ≤ n → runsBefore s x m ≤ runsBefore s x n
 runs-rise s x m n l =
     let e : m + (n - m) ≡ n = omega arith in
     subst (λ (k : ℕ). runsBefore s x m ≤ runsBefore s x k) e (runs-grow s x m (n - m))

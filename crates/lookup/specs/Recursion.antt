@@ -1,6 +1,6 @@
 -- Recursion over expressions: what a number stands for is made from what the smaller numbers stand for. Definitions only.
 use Prim.Native.Nat.{ℕ, zero, suc}
-use mathlib.Core.Bool.{Bool, true, false}
+use mathlib.Core.Bool.{true, false}
 use lib.Dec.{eqb}
 
 -- what o stands for where it is below a number, and `other` where it is not

@@ -1,7 +1,7 @@
 -- `range_selectivity` of the source's analysis.rs: values are spread evenly from the lower bound to the upper. Definitions only.
 use mathlib.Core.Bool.{cond, _&&_}
-use lib.Ieee.{Float, binary64, sub, div, lt, neg}
-use Rattle.float.specs.Order.{f64Zero, f64One, f64Max, clampUnit}
+use lib.Ieee.{Float, binary64, sub, div}
+use Rattle.float.specs.Order.{f64One, f64Max, clampUnit, absolute}
 use Rattle.float.specs.Option.{none}
 use Rattle.float.specs.declared.option.OptionF64.{OptionF64}
 use Rattle.scalar.specs.Number.{scalarToF64}
@@ -18,9 +18,6 @@ use Rattle.range.specs.Selectivity.{unitEstimate}
 abbrev pub boundNumber : Bound → OptionF64
 boundNumber Absent = none
 boundNumber (Present bound) = scalarToF64 bound
-
-abbrev pub absolute : Float → Float
-absolute x = cond (lt x f64Zero) (neg x) x
 
 unfoldable pub width : Float → Float → Float
 width min max = f64Max (absolute (sub binary64 max min)) f64One

@@ -1,10 +1,11 @@
 // range_selectivity of the source's analysis.rs.
 ghost use mathlib.Core.Path.{_≡_};
-ghost use Rattle.range.specs.Range.{boundNumber, absolute, width, partBelow, partAbove, selected, rangeOf, rangeSelectivity};
+ghost use Rattle.range.specs.Range.{boundNumber, width, partBelow, partAbove, selected, rangeOf, rangeSelectivity};
 use crate::selectivity::unit_estimate;
 use estimate::Estimate;
 use float::option::OptionF64;
 use float::option::none;
+use float::order::absolute;
 use float::order::clamp_unit;
 use float::order::f64_max;
 use records::columns::ColumnProfile;
@@ -23,12 +24,6 @@ fn bound_number(bound: Bound) -> OptionF64
         Bound::Absent => none(),
         Bound::Present(bound) => scalar_to_f64(bound),
     }
-}
-
-fn absolute(x: f64) -> f64
-    ensures { λ r. ⌜ r ≡ absolute x ⌝ }
-{
-    if x < 0.0 { -x } else { x }
 }
 
 fn width(min: f64, max: f64) -> f64

@@ -1,5 +1,5 @@
 -- When a sheet's operands are judged, its expressions and the operands' count have been. Then operand i stands in the run of the expression that `naryOf` names, whether the sheet is accepted in the end or not. Assumes nothing.
-use Prim.Native.Nat.{ℕ, _<_}
+use Prim.Native.Nat.{ℕ, _+_, _<_}
 use mathlib.Core.Path.{_≡_, sym, ap, _∙_, subst}
 use mathlib.Core.List.{List}
 use native.Mathlib.Omega.{arith}
@@ -10,12 +10,15 @@ use Rattle.rules.specs.Rules.{ask}
 use Rattle.rules.proofs.RuleLaws.{ask-kept, else-second, each-kept}
 use Rattle.record_rules.specs.Fields.{whole}
 use Rattle.expression_rules.specs.Expressions.{expressionRefusal}
-use Rattle.expression_rules.specs.Operands.{expressionPlace, runsBefore, naryOf}
+use Rattle.expression_rules.specs.Operands.{expressionPlace, runsBefore, naryOf, operandRefusal}
 use Rattle.expression_rules.proofs.RunLaws.{Holds, owner-holds}
 use Rattle.expression_rules.proofs.RoomLaws.{runs-follow}
+use Rattle.sheet.specs.Order.{sectionAt}
+use Rattle.sheet.specs.Check.{refusalIn, sheetRefusal}
 use Rattle.sheet.specs.Rules.{countWithin, fillRefusal, countRefusal, recordRefusal, recordsRefusal, sectionRefusal}
 use Rattle.sheet.specs.declared.order.Kind.the-variants.{Expressions, Operands}
 use Rattle.sheet.proofs.PlaceLaws.{fixed-place, expressions-fixed}
+use Rattle.sheet.proofs.AcceptedLaws.{accepted-section, accepted-count, accepted-record}
 
 module _ (s : List ℕ) (sketches x start : ℕ) where
   expressions-kept : sectionRefusal Expressions s sketches x x ≡ 0 → (e : ℕ) → e < u16At s x → expressionRefusal s (runsBefore s x e) e (expressionPlace x e) ≡ 0
@@ -35,3 +38,17 @@ module _ (s : List ℕ) (sketches x start : ℕ) where
   -- the expressions' count stands at x, that of the operands at start
   pub operand-owner : sectionRefusal Expressions s sketches x x ≡ 0 → countRefusal Operands s x start ≡ 0 → (i : ℕ) → i < u16At s start → Holds s x i (naryOf s x i)
   operand-owner k c i l = owner-holds s x i (runs-follow s x (expressions-kept k)) (subst (λ (n : ℕ). i < n) (runs-filled c) l)
+
+-- ---- of an accepted sheet: the expressions are section 9 and the operands section 10
+
+module _ (s : List ℕ) (kept : sheetRefusal s ≡ 0) where
+  pub accepted-expression : (e : ℕ) → e < u16At s (sectionAt s 9) → expressionRefusal s (runsBefore s (sectionAt s 9) e) e (expressionPlace (sectionAt s 9) e) ≡ 0
+  unfolding refusalIn
+  accepted-expression = expressions-kept s (sectionAt s 2) (sectionAt s 9) (sectionAt s 10) (accepted-section s kept 9 (omega arith))
+
+  pub accepted-runs : u16At s (sectionAt s 10) ≡ runsBefore s (sectionAt s 9) (u16At s (sectionAt s 9))
+  accepted-runs = runs-filled s (sectionAt s 2) (sectionAt s 9) (sectionAt s 10) (accepted-count s kept 10 (omega arith))
+
+  pub accepted-operand : (i : ℕ) → i < u16At s (sectionAt s 10) → operandRefusal s (sectionAt s 9) (naryOf s (sectionAt s 9) i) (sectionAt s 10 + 2) i ≡ 0
+  unfolding recordRefusal
+  accepted-operand i l = accepted-record s kept 10 (omega arith) i l

@@ -2,7 +2,6 @@
 use Prim.Native.Nat.{ℕ}
 use mathlib.Core.List.{List, [], _∷_, _++_}
 use Rattle.le.specs.Fields.{fieldBytes, u16Bytes}
-use Rattle.records.specs.declared.expressions.NaryOp.{NaryOp}
 use Rattle.records.specs.declared.expressions.NaryOp.the-variants.{And, Or}
 use Rattle.records.specs.declared.expressions.Expression.{Expression}
 use Rattle.records.specs.declared.expressions.Expression.the-variants.{Literal, ColumnRef, Unary, Binary, Nary, Like, Other}

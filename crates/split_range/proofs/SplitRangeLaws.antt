@@ -29,7 +29,8 @@ use Rattle.split.specs.declared.run.AndRun.{AndRun}
 use Rattle.split.specs.declared.run.AndRun.the-variants.{Absent, Present}
 use Rattle.split.proofs.ConjunctLaws.{alone, apart, operand-below}
 use Rattle.split_range.proofs.SumLaws.{sum, sum-rises, slots-most}
-use Rattle.split_range.proofs.SlotLaws.{runs-rise, follow, runs-within, slot-below, slot-once}
+use Rattle.lawful.proofs.OperandLaws.{runs-rise}
+use Rattle.split_range.proofs.SlotLaws.{follow, runs-within, slot-below, slot-once}
 
 -- the conjuncts of the operands in m slots from the i-th on
 flattened-sum : (c : ℕ → List ℕ) (f w : ℕ → ℕ) (i m : ℕ) → ((j : ℕ) → j < i + m → length (c (f j)) ≡ w (f j))

@@ -64,16 +64,16 @@ decimal-tame z k h l =
     spread-tame 74 63 x (lit≤ tt) (lit≤ tt) (div-spread 0 63 0 74 (ofInt binary64 z) (powerOfTen k) (lit≤ tt) (lit≤ tt) (integer-spread z h) (t .0) (t .1))
 
 -- ---- scalars; where there is no number, 0 stands in its place
-zero-tame : Tame f64Zero
+pub zero-tame : Tame f64Zero
 zero-tame = record { held = zero-unit .held; lawful = tt }
 
-holds : (b : Bool) → b ≡ true → T b
+pub holds : (b : Bool) → b ≡ true → T b
 holds b e = subst T (sym e) tt
 
-narrow : (z : ℤ) → T (in32 z) → mag z < 2 ^ 63
+pub narrow : (z : ℤ) → T (in32 z) → mag z < 2 ^ 63
 narrow z h = Nat.le-trans (ltb→lt (mag z) (2 ^ 31) h) (lit≤ tt)
 
-wide : (z : ℤ) → T (in64 z) → mag z < 2 ^ 63
+pub wide : (z : ℤ) → T (in64 z) → mag z < 2 ^ 63
 wide z h = ltb→lt (mag z) (2 ^ 63) h
 
 pub scalar-tame : (x : Scalar) → lawfulScalar x ≡ true → Tame (scalarToF64 x .number)

@@ -14,13 +14,13 @@ use lib.Ieee.{Float, nan, inf, fin, binary64, up, down, round, sum, sub, neg, di
 use lib.Ieee.Fits.{up-pos, down-pos, neg-fits}
 use lib.Ieee.Positive.{num, den, positive, first-pos}
 use lib.Ieee.Scale.{round-same}
-use Rattle.float.specs.Order.{f64Max, f64Zero, f64One, clampUnit, nonneg, ordinary, Unit01}
+use Rattle.float.specs.Order.{f64Max, f64Zero, f64One, clampUnit, nonneg, ordinary, Unit01, absolute}
 use Rattle.float.proofs.IntegerLaws.{round-neg}
 use Rattle.float.proofs.RoundLaws.{fit, own-units}
 use Rattle.float.proofs.SignLaws.{below-zero}
 use Rattle.float.proofs.NonNegLaws.{div-is}
 use Rattle.float.proofs.UnitLaws.{zero-unit, clamped-unit}
-use Rattle.units.specs.Sizes.{UpTo, AtLeast, Spread, Stepped, absolute}
+use Rattle.units.specs.Sizes.{UpTo, AtLeast, Spread, Stepped}
 use Rattle.units.proofs.SizeLaws.{round-up-to, round-at-least, sum-bound, at-least-num, at-least-positive, unit-up-to, up-to-unit, div-up-to, div-at-least, max-up-to, zero-up-to, one-up-to, one-at-least, max-one, nonneg-ordinary}
 use Rattle.units.proofs.UnitOperations.{nonneg-not-below}
 

@@ -13,12 +13,12 @@ use lib.Ieee.{Float, nan, inf, fin, binary64, up, down, neg, sub, div, le, fits}
 use lib.Ieee.Fits.{and-i, and-l, and-r, neg-fits}
 use lib.Ieee.Positive as Positive
 use lib.Ieee.Positive.{positive}
-use Rattle.float.specs.Order.{f64Max, f64Zero, f64One, clampUnit, Unit01}
+use Rattle.float.specs.Order.{f64Max, f64Zero, f64One, clampUnit, Unit01, absolute}
 use Rattle.float.specs.Ranges.{plusZero, between, zeroOrBetween}
 use Rattle.float.proofs.RangeLaws.{plus-zero-is}
 use Rattle.float.proofs.RoundLaws.{fit, own-units}
 use Rattle.scalar_bytes.specs.Reading.{float64Lawful}
-use Rattle.units.specs.Sizes.{UpTo, AtLeast, Spread, Stepped, Tame, absolute}
+use Rattle.units.specs.Sizes.{UpTo, AtLeast, Spread, Stepped, Tame}
 use Rattle.units.proofs.SizeLaws.{le-up-to, up-to-le, up-to-more, le-at-least, at-least-le, at-least-more, at-least-positive, zero-up-to, max-one}
 use Rattle.units.proofs.FigureLaws.{or-split, positive-nonneg}
 use Rattle.units.proofs.SpreadLaws.{neg-neg, sub-spread, spread-fits, spread-absolute, div-spread, spread-clamped}

@@ -2,9 +2,8 @@
 use Prim.Native.Nat.{ℕ, _*_, _^_, _≤_}
 use mathlib.Core.Path.{_≡_}
 use mathlib.Core.Logic.{_⊎_}
-use mathlib.Core.Bool.{cond}
 use lib.Dec.{T}
-use lib.Ieee.{Float, binary64, fits, lt, neg}
+use lib.Ieee.{Float, binary64, fits, neg}
 use lib.Ieee.Positive.{num, den}
 use lib.Ieee.Scale.{finite}
 use Rattle.float.specs.Order.{f64Zero, nonneg, ordinary}
@@ -36,6 +35,3 @@ pub record Stepped (l h : ℕ) (x : Float) : Type 0 where
 pub record Tame (x : Float) : Type 0 where
   pub held : T (fits binary64 x)
   pub lawful : T (float64Lawful x)
-
-abbrev pub absolute : Float → Float
-absolute x = cond (lt x f64Zero) (neg x) x

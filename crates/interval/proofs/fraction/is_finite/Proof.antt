@@ -1,4 +1,4 @@
-use Rattle.interval.specs.Fraction.{isFinite}
+use lib.Ieee.Scale.{finite}
 use mathlib.Core.Bool.{true, false, _&&_}
 use mathlib.Core.Path.{_≡_, refl, _∙_}
 use lib.Ieee.{Float, nan, inf, fin, ofBits, neg, div, lt}
@@ -10,7 +10,7 @@ both-requires : tie.Need-both-requires
 both-requires c κs = search needs
 
 -- above minus infinity and below infinity
-finite-is : (x : Float) → (lt (inf true) x && lt x (inf false)) ≡ isFinite x
+finite-is : (x : Float) → (lt (inf true) x && lt x (inf false)) ≡ finite x
 unfolding lt
 finite-is nan = refl
 finite-is (inf true) = refl

@@ -1,8 +1,8 @@
 -- A negative number loses its sign. Assumes nothing.
 use lib.Ieee.{ofBits}
 use mathlib.Core.Path.{refl}
-use Rattle.range.proofs.absolute.Statement.{statement}
-use Rattle.range.proofs.absolute.Tie as tie
+use Rattle.float.proofs.order.absolute.Statement.{statement}
+use Rattle.float.proofs.order.absolute.Tie as tie
 
 returns : tie.Need-returns
 unfolding ofBits
