@@ -3,17 +3,11 @@ use Prim.Native.Nat.{ℕ, suc, _+_, _-_, _≤_, _<_}
 use mathlib.Core.Path.{_≡_, sym, ap, _∙_}
 use mathlib.Core.Bool.{Bool, true, false, _&&_}
 use mathlib.Core.List.{List}
-use native.Mathlib.Omega.{arith}
 use borrow.Author.Tests.{eq-eqb, ne-eqb}
 use lib.Dec.{eqb}
 use Rattle.le.specs.Fields.{byteAt}
 use Rattle.sheet_cases.specs.Entries.{sameBytes}
-
-one-less : (i : ℕ) → 0 < i → i ≡ suc (i - 1)
-one-less i h = omega arith
-
-none-left : (i : ℕ) → i ≤ 0 → i ≡ 0
-none-left i h = omega arith
+use Rattle.sheet_cases.proofs.PrefixLaws.{one-less, none-left}
 
 module _ (out a : List ℕ) (at i : ℕ) (all : Bool) where
   split-off : (j : ℕ) → i ≡ suc j → sameBytes out a at i ≡ all → (eqb (byteAt out j) (byteAt a (at + j)) && sameBytes out a at j) ≡ all

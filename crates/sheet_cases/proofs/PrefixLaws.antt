@@ -12,7 +12,7 @@ use Rattle.rules.proofs.RuleLaws.{both-first}
 use Rattle.le.specs.Fields.{u32At}
 use Rattle.sheet_cases.specs.Claims.{isRefused, differingBelow, answerFits}
 
-one-less : (i : ℕ) → 0 < i → i ≡ suc (i - 1)
+pub one-less : (i : ℕ) → 0 < i → i ≡ suc (i - 1)
 one-less i h = omega arith
 
 next-below : (s : List ℕ) (number r i j total : ℕ) → i ≡ suc j → r + differingBelow s number i ≡ total → r + bit (not (isRefused (take j s) number)) + differingBelow s number j ≡ total
@@ -23,7 +23,7 @@ pub below-next : (s : List ℕ) (number r i total : ℕ) → 0 < i → r + diffe
     → r + bit (not (isRefused (take (i - 1) s) number)) + differingBelow s number (i - 1) ≡ total
 below-next s number r i total h e = next-below s number r i (i - 1) total (one-less i h) e
 
-none-left : (i : ℕ) → i ≤ 0 → i ≡ 0
+pub none-left : (i : ℕ) → i ≤ 0 → i ≡ 0
 none-left i h = omega arith
 
 pub below-end : (s : List ℕ) (number r i total : ℕ) → i ≤ 0 → r + differingBelow s number i ≡ total → r ≡ total
