@@ -15,7 +15,7 @@ use Rattle.units.proofs.TameLaws.{tame-difference}
 use lib.Ieee.Scale.{finite}
 use Rattle.interval.specs.Fraction.{continuous}
 use Rattle.interval.specs.declared.fraction.IntervalFraction.the-variants.{NoFraction, Fraction}
-use Rattle.interval.proofs.FractionLaws.{InUnit}
+use Rattle.fraction_range.specs.Distinct.{InUnit}
 
 -- ---- a width that is neither below zero nor zero
 width-up-to : (l h : ℕ) (x : Float) → Spread l h x → lt x f64Zero ≡ false → UpTo h x

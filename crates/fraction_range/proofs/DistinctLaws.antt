@@ -26,7 +26,7 @@ use Rattle.interval.specs.Intersection.{zipBounds, overlapping, disjoint, overl
 use Rattle.interval.specs.declared.fraction.IntervalFraction.{IntervalFraction}
 use Rattle.interval.specs.declared.fraction.IntervalFraction.the-variants.{NoFraction, Fraction}
 use Rattle.interval.specs.declared.intersection.DistinctIntersection.{DistinctIntersection}
-use Rattle.interval.proofs.FractionLaws.{InUnit}
+use Rattle.fraction_range.specs.Distinct.{InUnit}
 use Rattle.fraction_range.specs.Distinct.{LawfulBounds, DistinctWithin}
 use Rattle.fraction_range.proofs.RangeFractionLaws.{left-unit, right-unit}
 

@@ -1,3 +1,4 @@
+pub mod WholeFractionLaws
 pub mod ContinuousLaws
 pub mod RangeFractionLaws
 pub mod DistinctLaws

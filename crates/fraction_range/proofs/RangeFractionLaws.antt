@@ -18,7 +18,8 @@ use Rattle.interval.specs.Fraction.{sameTypes, typedFraction, scalarIntervalFra
 use Rattle.interval.specs.Intersection.{overlapLower, overlapUpper}
 use Rattle.interval.specs.declared.fraction.IntervalFraction.{IntervalFraction}
 use Rattle.interval.specs.declared.fraction.IntervalFraction.the-variants.{NoFraction}
-use Rattle.interval.proofs.FractionLaws.{InUnit, Whole64, left-fraction, right-fraction}
+use Rattle.fraction_range.specs.Distinct.{InUnit}
+use Rattle.fraction_range.proofs.WholeFractionLaws.{Whole64, left-fraction, right-fraction}
 use Rattle.fraction_range.proofs.ContinuousLaws.{continuous-unit}
 
 -- ---- the numbers of a scalar that a sheet may hold; 0 stands where there is none

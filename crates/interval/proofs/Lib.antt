@@ -1,2 +1,1 @@
 pub mod WidthLaws
-pub mod FractionLaws

@@ -5,7 +5,7 @@ use mathlib.Core.Bool.{Bool, true, _&&_}
 use Prim.Native.Nat.{ℕ, zero, suc, _*_, _^_, _≤_, _<_}
 use native.Mathlib.Nat as Nat
 use native.Mathlib.Nat.{le-of-eq, zero-lt-suc, one-le-pow, pow-le-pow-right, mul-le-mul-right}
-use lib.IntN.{ℤ, pos, negsuc}
+use lib.IntN.{ℤ, pos, negsuc, natAbs}
 use lib.Signed.{mag}
 use lib.Dec.{T, leb, leb→le, ltb→lt, lit≤}
 use lib.Ieee.{binary64, ofInt, div, fits}
@@ -32,16 +32,24 @@ zero-is : ofInt binary64 (pos 0) ≡ f64Zero
 unfolding ofInt
 zero-is = refl
 
-sized-count : (n : ℕ) → n < 2 ^ 63 → AtLeast 0 (ofInt binary64 (pos (suc n))) × UpTo 63 (ofInt binary64 (pos (suc n)))
-sized-count n h = let u = count-up-to 63 (suc n) (lit≤ tt) h in (count-at-least (suc n) (zero-lt-suc n) (u .low), u)
+pub count-sized : (h n : ℕ) → h ≤ 1023 → suc n ≤ 2 ^ h → AtLeast 0 (ofInt binary64 (pos (suc n))) × UpTo h (ofInt binary64 (pos (suc n)))
+count-sized h n H k = let u = count-up-to h (suc n) H k in (count-at-least (suc n) (zero-lt-suc n) (u .low), u)
 
-pub integer-spread : (z : ℤ) → mag z < 2 ^ 63 → Spread 0 63 (ofInt binary64 z)
-integer-spread (pos zero) h = inl zero-is
-integer-spread (pos (suc n)) h = inr (inl (sized-count n (Nat.le-trans (Nat.le-suc (suc n)) h)))
-integer-spread (negsuc n) h = let s = sized-count n h in inr (inr (ofInt binary64 (pos (suc n)), ofInt-neg binary64 n, s .0, s .1))
+pub integer-spread : (h : ℕ) (z : ℤ) → h ≤ 1023 → natAbs z ≤ 2 ^ h → Spread 0 h (ofInt binary64 z)
+integer-spread h (pos zero) H k = inl zero-is
+integer-spread h (pos (suc n)) H k = inr (inl (count-sized h n H k))
+integer-spread h (negsuc n) H k = let s = count-sized h n H k in inr (inr (ofInt binary64 (pos (suc n)), ofInt-neg binary64 n, s .0, s .1))
+
+-- within 64 bits
+signed-size : (z : ℤ) → mag z < 2 ^ 63 → natAbs z ≤ 2 ^ 63
+signed-size (pos n) h = Nat.le-trans (Nat.le-suc n) h
+signed-size (negsuc n) h = h
+
+signed-spread : (z : ℤ) → mag z < 2 ^ 63 → Spread 0 63 (ofInt binary64 z)
+signed-spread z h = integer-spread 63 z (lit≤ tt) (signed-size z h)
 
 pub integer-tame : (z : ℤ) → mag z < 2 ^ 63 → Tame (ofInt binary64 z)
-integer-tame z h = spread-tame 0 63 (ofInt binary64 z) (lit≤ tt) (lit≤ tt) (integer-spread z h)
+integer-tame z h = spread-tame 0 63 (ofInt binary64 z) (lit≤ tt) (lit≤ tt) (signed-spread z h)
 
 -- ---- decimals: 10 ^ 22 is below 2 ^ 74
 ten-sized : (k : ℕ) → k ≤ 22 → AtLeast 0 (powerOfTen k) × UpTo 74 (powerOfTen k)
@@ -61,7 +69,7 @@ pub decimal-tame : (z : ℤ) (k : ℕ) → mag z < 2 ^ 63 → k ≤ 22 → Tame 
 decimal-tame z k h l =
     let t = ten-sized k l in
     let x = div binary64 (ofInt binary64 z) (powerOfTen k) in
-    spread-tame 74 63 x (lit≤ tt) (lit≤ tt) (div-spread 0 63 0 74 (ofInt binary64 z) (powerOfTen k) (lit≤ tt) (lit≤ tt) (integer-spread z h) (t .0) (t .1))
+    spread-tame 74 63 x (lit≤ tt) (lit≤ tt) (div-spread 0 63 0 74 (ofInt binary64 z) (powerOfTen k) (lit≤ tt) (lit≤ tt) (signed-spread z h) (t .0) (t .1))
 
 -- ---- scalars; where there is no number, 0 stands in its place
 pub zero-tame : Tame f64Zero

@@ -1,175 +1,64 @@
 -- A fraction of whole numbers within 64 bits lies from 0 to 1 and is not -0: for booleans, whole numbers and days whatever the overlap is, and for decimals where the overlap is the one that `estimated_distinct_intersection` takes.
 -- There the overlap is no wider than either range, so where a range is reversed the overlap is too, and the quotient is above 0. Nothing is said here of Float64. Assumes nothing.
-use Prim.Native.Nat.{ℕ, zero, suc, _+_, _-_, _*_, _^_, _≤_, _<_}
-use Prim.{Unit}
+use Prim.Native.Nat.{ℕ, zero, suc, _+_, _-_, _^_, _≤_, _<_}
 use mathlib.Core.Path.{_≡_, refl, sym, ap, _∙_, subst}
 use mathlib.Core.Bool.{Bool, true, false, cond, not, _&&_, true≢false, false≢true}
 use native.Mathlib.Omega.{arith}
-use native.Mathlib.Nat.{le-refl, mul-comm, mul-assoc, mul-pos, mul-le-mul}
+use native.Mathlib.Nat.{le-refl}
 use borrow.Author.Tests.{eq-eqb, eqb-true, ltb-true, ltb-false}
-use lib.Dec.{T, ltb, eqb, ltb→lt, nltb→le, eqb→eq}
+use lib.Dec.{T, ltb, eqb, ltb→lt, nltb→le, eqb→eq, lit≤}
 use lib.IntN.{ℤ, pos, negsuc, natAbs, subℕ, _+ℤ_, _-ℤ_, +ℤ-idr}
 use lib.Signed.{mag, ltZ, nonNeg}
-use lib.Ieee.{Float, nan, inf, fin, Format, binary64, prec, emax, low, up, down, fits, odd, units, round, neg, ofInt, div, lt, le}
-use lib.Ieee.Fits.{and-l, and-r, up-pos, div-fits}
-use lib.Ieee.Positive.{num, den, positive, above, den-pos, between, above-of-le}
+use lib.Ieee.{Float, nan, inf, fin, Format, binary64, low, up, neg, ofInt, div, lt, le}
+use lib.Ieee.Fits.{and-l, and-r}
+use lib.Ieee.Positive.{above}
 use Rattle.float.specs.Integers.{offset}
-use Rattle.float.specs.Order.{f64Zero, f64One, clampUnit, nonneg, ordinary, Unit01}
-use Rattle.float.proofs.IntegerLaws.{difference, round-neg, ofInt-neg}
-use Rattle.float.proofs.RoundLaws.{round-nonneg}
-use Rattle.float.proofs.NonNegLaws.{le-cross, round-le, le-round, div-is}
-use Rattle.float.proofs.UnitLaws.{one-unit, clamped-unit}
+use Rattle.float.specs.Order.{f64Zero, f64One, clampUnit, nonneg, Unit01}
+use Rattle.float.proofs.IntegerLaws.{difference, ofInt-neg}
+use Rattle.float.proofs.UnitLaws.{one-unit}
 use Rattle.scalar.specs.Types.{scalarType, sameType}
 use Rattle.scalar.specs.Order.{integerOrder, orderThen, scalarIntegers, scalarOrder, isLess, isGreater}
 use Rattle.scalar.specs.declared.ScalarType.{ScalarType}
 use Rattle.scalar.specs.declared.Scalar.{Scalar}
 use Rattle.scalar.specs.declared.order.ScalarOrdering.{ScalarOrdering}
 use Rattle.scalar.specs.declared.order.ScalarOrdering.the-variants.{Less, Equal, Greater, Unordered}
 use Rattle.interval.specs.Fraction.{isZero, discrete, decimal, isDiscrete, scalarInteger, sameTypes, scalarIntervalFraction}
 use Rattle.interval.specs.Intersection.{overlapLower, overlapUpper}
 use Rattle.interval.specs.declared.fraction.IntervalFraction.{IntervalFraction}
 use Rattle.interval.specs.declared.fraction.IntervalFraction.the-variants.{NoFraction, Fraction}
+use Rattle.units.proofs.SpreadLaws.{div-spread, spread-clamped}
+use Rattle.units.proofs.ScalarLaws.{count-sized, integer-spread}
+use Rattle.fraction_range.specs.Distinct.{InUnit}
 
--- from 0 to 1 and not -0, where there is a fraction
-abbrev pub InUnit : IntervalFraction → Type 0
-InUnit NoFraction = Unit {0}
-InUnit (Fraction x) = Unit01 x
+-- ---- quotients of whole numbers up to 2 ^ 64
 
--- ---- floats of whole numbers up to 2 ^ 64
-
-abbrev large : Float
-large = fin false 1 (pos 64)
-
-abbrev small : Float
-small = fin false 1 (negsuc 63)
-
-all-fit : T (fits binary64 f64One) × T (fits binary64 large) × T (fits binary64 small)
-unfolding fits
-all-fit = (tt, tt, tt)
-
-whole-low : (n : ℕ) → T (le f64One (ofInt binary64 (pos (suc n))))
-unfolding ofInt
-whole-low n = le-round (suc n) 1 f64One (omega arith) (all-fit .0) tt (omega arith)
-
-whole-high : (n : ℕ) → n ≤ 2 ^ 64 → T (le (ofInt binary64 (pos n)) large)
-unfolding ofInt
-whole-high n h = round-le n 1 large (omega arith) (all-fit .1) tt (omega arith)
-
-whole-nonneg : (n : ℕ) → n ≤ 2 ^ 64 → T (nonneg (ofInt binary64 (pos n)))
-unfolding ofInt
-whole-nonneg n h = round-nonneg binary64 n 1 large tt (whole-high n h)
-
-whole-positive : (n : ℕ) → suc n ≤ 2 ^ 64 → T (positive (ofInt binary64 (pos (suc n))))
-whole-positive n h = between f64One (ofInt binary64 (pos (suc n))) large tt tt (whole-low n) (whole-high (suc n) h)
-
-positive-nonneg : (x : Float) → T (positive x) → T (nonneg x)
-positive-nonneg nan p = absurd p
-positive-nonneg (inf s) p = absurd p
-positive-nonneg (fin true m e) p = absurd p
-positive-nonneg (fin false m e) p = tt
-
-num-pos : (x : Float) → T (positive x) → 0 < num x
-num-pos nan p = absurd p
-num-pos (inf s) p = absurd p
-num-pos (fin true m e) p = absurd p
-num-pos (fin false m e) p = mul-pos (ltb→lt 0 m p) (up-pos e)
-
--- ---- quotients
-
-odd-ordinary : (d q k l : ℕ) → T (ordinary (odd d false q k l))
-unfolding odd
-odd-ordinary d zero k l = tt
-odd-ordinary d (suc q) k l = tt
-
-units-ordinary : (f : Format) (q k : ℕ) → T (ordinary (units f false q k))
-unfolding units
-units-ordinary f q k = go (ltb (q * 2 ^ k) (2 ^ (low f + suc (emax f))))
-  where
-    go : (b : Bool) → T (ordinary (cond b (odd (suc (prec f)) false q k (low f)) (inf false)))
-    go true = odd-ordinary (suc (prec f)) q k (low f)
-    go false = tt
-
-round-ordinary : (f : Format) (a c : ℕ) → T (ordinary (round f false a c))
-unfolding round
-round-ordinary f a c = units-ordinary f _ _
-
-neg-ordinary : (z : Float) → T (above z) → T (ordinary (neg z))
-unfolding neg
-neg-ordinary nan h = absurd h
-neg-ordinary (inf true) h = absurd h
-neg-ordinary (inf false) h = tt
-neg-ordinary (fin true m e) h = absurd h
-neg-ordinary (fin false m e) h = h
-
--- the signs of a quotient
-div-one : (f : Format) (x y : Float) → T (positive x) → T (positive y) → div f (neg x) y ≡ neg (div f x y)
+both-signs : (f : Format) (x y : Float) → T (nonneg x) → T (nonneg y) → div f (neg x) (neg y) ≡ div f x y
 unfolding div neg
-div-one f nan y p q = absurd p
-div-one f (inf s) y p q = absurd p
-div-one f (fin true m e) y p q = absurd p
-div-one f (fin false m e) nan p q = absurd q
-div-one f (fin false m e) (inf t) p q = absurd q
-div-one f (fin false m e) (fin true n d) p q = absurd q
-div-one f (fin false m e) (fin false n d) p q = go (eqb n 0) (eqb m 0)
-  where
-    go : (t u : Bool) → cond t (cond u nan (inf true)) (round f true (m * up e * down d) (n * up d * down e)) ≡ neg (cond t (cond u nan (inf false)) (round f false (m * up e * down d) (n * up d * down e)))
-    go true true = refl
-    go true false = refl
-    go false u = round-neg f (m * up e * down d) (n * up d * down e)
-
-div-two : (f : Format) (x y : Float) → T (positive x) → T (positive y) → div f (neg x) (neg y) ≡ div f x y
-unfolding div neg
-div-two f nan y p q = absurd p
-div-two f (inf s) y p q = absurd p
-div-two f (fin true m e) y p q = absurd p
-div-two f (fin false m e) nan p q = absurd q
-div-two f (fin false m e) (inf t) p q = absurd q
-div-two f (fin false m e) (fin true n d) p q = absurd q
-div-two f (fin false m e) (fin false n d) p q = refl
-
--- m / (n + 1)
-not-negative : (m n : ℕ) → m ≤ 2 ^ 64 → suc n ≤ 2 ^ 64 → T (ordinary (div binary64 (ofInt binary64 (pos m)) (ofInt binary64 (pos (suc n)))))
-not-negative m n h k =
-    let x = ofInt binary64 (pos m) in
-    let y = ofInt binary64 (pos (suc n)) in
-    subst (λ (z : Float). T (ordinary z)) (sym (div-is binary64 x y (whole-nonneg m h) (whole-positive n k))) (round-ordinary binary64 (num x * den y) (num y * den x))
-
--- -(m + 1) / -(n + 1)
-both-negative : (m n : ℕ) → suc m ≤ 2 ^ 64 → suc n ≤ 2 ^ 64 → T (ordinary (div binary64 (ofInt binary64 (negsuc m)) (ofInt binary64 (negsuc n))))
-both-negative m n h k =
-    let x = ofInt binary64 (pos (suc m)) in
-    let y = ofInt binary64 (pos (suc n)) in
-    let e : div binary64 (ofInt binary64 (negsuc m)) (ofInt binary64 (negsuc n)) ≡ div binary64 x y = (λ i. div binary64 (ofInt-neg binary64 m i) (ofInt-neg binary64 n i)) ∙ div-two binary64 x y (whole-positive m h) (whole-positive n k) in
-    subst (λ (z : Float). T (ordinary z)) (sym e) (not-negative (suc m) n h k)
-
--- -(m + 1) / (n + 1): its size is at least 2 ^ -64, so it is not rounded to 0
-steps : (p q r s k : ℕ) → p ≤ k * s → q ≤ r → p * q ≤ r * s * k
-steps p q r s k h l = subst (λ (x : ℕ). p * q ≤ x) (mul-comm (k * s) r ∙ ap (λ (x : ℕ). r * x) (mul-comm k s) ∙ sym (mul-assoc r s k)) (mul-le-mul h l)
-
-quotient-above : (x y : Float) → T (positive x) → T (positive y) → T (le f64One x) → T (le y large) → T (above (div binary64 x y))
-quotient-above x y p q h k =
-    let one : den x ≤ num x = omega (arith, le-cross f64One x tt (positive-nonneg x p) h) in
-    let top : num y ≤ 2 ^ 64 * den y = omega (arith, le-cross y large (positive-nonneg y q) tt k) in
-    let low : num small * (num y * den x) ≤ num x * den y * den small = omega (arith, steps (num y) (den x) (num x) (den y) (2 ^ 64) top one) in
-    subst (λ (z : Float). T (above z)) (sym (div-is binary64 x y (positive-nonneg x p) q))
-    (above-of-le small _ tt (le-round (num x * den y) (num y * den x) small (mul-pos (num-pos y q) (den-pos x)) (all-fit .2) tt low))
-
-one-negative : (m n : ℕ) → suc m ≤ 2 ^ 64 → suc n ≤ 2 ^ 64 → T (ordinary (div binary64 (ofInt binary64 (negsuc m)) (ofInt binary64 (pos (suc n)))))
-one-negative m n h k =
-    let x = ofInt binary64 (pos (suc m)) in
-    let y = ofInt binary64 (pos (suc n)) in
-    let e : div binary64 (ofInt binary64 (negsuc m)) y ≡ neg (div binary64 x y) = (λ i. div binary64 (ofInt-neg binary64 m i) y) ∙ div-one binary64 x y (whole-positive m h) (whole-positive n k) in
-    subst (λ (z : Float). T (ordinary z)) (sym e) (neg-ordinary (div binary64 x y) (quotient-above x y (whole-positive m h) (whole-positive n k) (whole-low m) (whole-high (suc n) k)))
-
--- ---- the two ways to a fraction, by the width and the overlap as whole numbers
-
-clamped : (o w : ℤ) → T (ordinary (div binary64 (ofInt binary64 o) (ofInt binary64 w))) → Unit01 (clampUnit (div binary64 (ofInt binary64 o) (ofInt binary64 w)))
-clamped o w = clamped-unit (div binary64 (ofInt binary64 o) (ofInt binary64 w)) (div-fits binary64 (ofInt binary64 o) (ofInt binary64 w))
+both-signs f nan y p q = absurd p
+both-signs f (inf s) y p q = absurd p
+both-signs f (fin true m e) y p q = absurd p
+both-signs f (fin false m e) nan p q = absurd q
+both-signs f (fin false m e) (inf t) p q = absurd q
+both-signs f (fin false m e) (fin true n d) p q = absurd q
+both-signs f (fin false m e) (fin false n d) p q = refl
 
 -- a width from 1 on: any overlap will do
 above-zero : (o : ℤ) (n : ℕ) → natAbs o ≤ 2 ^ 64 → suc n ≤ 2 ^ 64 → Unit01 (clampUnit (div binary64 (ofInt binary64 o) (ofInt binary64 (pos (suc n)))))
-above-zero (pos m) n h k = clamped (pos m) (pos (suc n)) (not-negative m n h k)
-above-zero (negsuc m) n h k = clamped (negsuc m) (pos (suc n)) (one-negative m n h k)
+above-zero o n h k =
+    let x = ofInt binary64 o in
+    let y = ofInt binary64 (pos (suc n)) in
+    let s = count-sized 64 n (lit≤ tt) k in
+    spread-clamped 64 64 (div binary64 x y) (div-spread 0 64 0 64 x y (lit≤ tt) (lit≤ tt) (integer-spread 64 o (lit≤ tt) h) (s .0) (s .1))
+
+-- -(m + 1) / -(n + 1)
+both-negative : (m n : ℕ) → suc m ≤ 2 ^ 64 → suc n ≤ 2 ^ 64 → Unit01 (clampUnit (div binary64 (ofInt binary64 (negsuc m)) (ofInt binary64 (negsuc n))))
+both-negative m n h k =
+    let x = ofInt binary64 (pos (suc m)) in
+    let y = ofInt binary64 (pos (suc n)) in
+    let e : div binary64 (ofInt binary64 (negsuc m)) (ofInt binary64 (negsuc n)) ≡ div binary64 x y = (λ i. div binary64 (ofInt-neg binary64 m i) (ofInt-neg binary64 n i)) ∙ both-signs binary64 x y (count-sized 64 m (lit≤ tt) h .1 .low) (count-sized 64 n (lit≤ tt) k .1 .low) in
+    subst (λ (z : Float). Unit01 (clampUnit z)) (sym e) (above-zero (pos (suc m)) n h k)
+
+-- ---- the two ways to a fraction, by the width and the overlap as whole numbers
 
 if-there : (b : Bool) (x : Float) → Unit01 x → InUnit (cond b (Fraction x) NoFraction)
 if-there true x u = u
@@ -179,7 +68,7 @@ zero-not-above : lt f64Zero (ofInt binary64 (pos 0)) ≡ false
 unfolding lt ofInt
 zero-not-above = refl
 
-neg-not-above : (x : Float) → T (positive x) → lt f64Zero (neg x) ≡ false
+neg-not-above : (x : Float) → T (nonneg x) → lt f64Zero (neg x) ≡ false
 unfolding lt neg
 neg-not-above nan p = absurd p
 neg-not-above (inf s) p = absurd p
@@ -189,13 +78,13 @@ neg-not-above (fin false m e) p = refl
 by-count : (w o : ℤ) → natAbs w ≤ 2 ^ 64 → natAbs o ≤ 2 ^ 64 → InUnit (cond (lt f64Zero (ofInt binary64 w)) (Fraction (clampUnit (div binary64 (ofInt binary64 o) (ofInt binary64 w)))) NoFraction)
 by-count (pos zero) o h k = rw zero-not-above tt
 by-count (pos (suc n)) o h k = if-there (lt f64Zero (ofInt binary64 (pos (suc n)))) _ (above-zero o n k h)
-by-count (negsuc n) o h k = rw (ap (lt f64Zero) (ofInt-neg binary64 n) ∙ neg-not-above (ofInt binary64 (pos (suc n))) (whole-positive n h)) tt
+by-count (negsuc n) o h k = rw (ap (lt f64Zero) (ofInt-neg binary64 n) ∙ neg-not-above (ofInt binary64 (pos (suc n))) (count-sized 64 n (lit≤ tt) h .1 .low)) tt
 
 by-width : (w o : ℤ) → natAbs w ≤ 2 ^ 64 → natAbs o ≤ 2 ^ 64 → (T (nonNeg o) → T (nonNeg w)) → InUnit (cond (isZero w) (Fraction f64One) (Fraction (clampUnit (div binary64 (ofInt binary64 o) (ofInt binary64 w)))))
 by-width (pos zero) o h k l = one-unit
 by-width (pos (suc n)) o h k l = above-zero o n k h
 by-width (negsuc n) (pos m) h k l = absurd (l tt)
-by-width (negsuc n) (negsuc m) h k l = clamped (negsuc m) (negsuc n) (both-negative m n k h)
+by-width (negsuc n) (negsuc m) h k l = both-negative m n k h
 
 -- ---- numbers within 64 bits, moved up by 2 ^ 63
 
