@@ -9,9 +9,8 @@ use borrow.Author.Tests.{eq-eqb, eqb-true, ltb-true, ltb-false}
 use lib.Dec.{T, ltb, eqb, ltb→lt, nltb→le, eqb→eq, lit≤}
 use lib.IntN.{ℤ, pos, negsuc, natAbs, subℕ, _+ℤ_, _-ℤ_, +ℤ-idr}
 use lib.Signed.{mag, ltZ, nonNeg}
-use lib.Ieee.{Float, nan, inf, fin, Format, binary64, low, up, neg, ofInt, div, lt, le}
+use lib.Ieee.{Float, nan, inf, fin, Format, binary64, neg, ofInt, div, lt}
 use lib.Ieee.Fits.{and-l, and-r}
-use lib.Ieee.Positive.{above}
 use Rattle.float.specs.Integers.{offset}
 use Rattle.float.specs.Order.{f64Zero, f64One, clampUnit, nonneg, Unit01}
 use Rattle.float.proofs.IntegerLaws.{difference, ofInt-neg}
