@@ -1,3 +1,4 @@
 pub mod Answers
 pub mod Predicate
 pub mod Split
+pub mod Question

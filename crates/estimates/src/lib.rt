@@ -5,9 +5,11 @@ ghost use Rattle.estimates.specs.Predicate.{predicateResult};
 ghost use Rattle.estimates.specs.Split.{splitResult};
 use answer::Answer;
 use answer::answer_number;
-use sheet::Checked;
+use expression_answer::Question;
+use expression_answer::answer_expression;
 
 pub mod answer;
+mod expression_answer;
 mod predicate_answer;
 mod split_answer;
 
@@ -16,11 +18,7 @@ pub fn predicate(sheet: &[u8], expression: u16, out: &mut [u8]) -> Answer
     ensures { λ r. ⌜ r ≡ answered (predicateResult (now (sheet .entry)) expression) (now (out .entry)) ⌝ }
     ensures { λ _. ⌜ now (out .exit) ≡ leaves (predicateResult (now (sheet .entry)) expression) (now (out .entry)) ⌝ }
 {
-    let checked = sheet::check(sheet);
-    match checked {
-        Checked::Refused(n) => Answer::Refused(n),
-        Checked::Accepted(q) => predicate_answer::write_predicate(sheet, q, expression, out),
-    }
+    answer_expression(Question::Predicate, sheet, expression, out)
 }
 
 // The conjuncts of an expression: how many, and their numbers.
@@ -28,11 +26,7 @@ pub fn split(sheet: &[u8], expression: u16, out: &mut [u8]) -> Answer
     ensures { λ r. ⌜ r ≡ answered (splitResult (now (sheet .entry)) expression) (now (out .entry)) ⌝ }
     ensures { λ _. ⌜ now (out .exit) ≡ leaves (splitResult (now (sheet .entry)) expression) (now (out .entry)) ⌝ }
 {
-    let checked = sheet::check(sheet);
-    match checked {
-        Checked::Refused(n) => Answer::Refused(n),
-        Checked::Accepted(q) => split_answer::write_split(sheet, q, expression, out),
-    }
+    answer_expression(Question::Split, sheet, expression, out)
 }
 
 // For programs in other languages. A slice passes as a pointer and a length, and `out` must share no

@@ -1,16 +1,15 @@
 // The bytes of a predicate's answer.
 ghost use mathlib.Core.Path.{_≡_};
 ghost use Rattle.sheet.specs.Sheet.{sheetOf};
-ghost use Rattle.estimates.specs.Answers.{bytes, answered, leaves, namedResult};
+ghost use Rattle.estimates.specs.Answers.{bytes, answered, leaves};
 ghost use Rattle.estimates.specs.Predicate.{predicateBytes};
 use crate::answer::Answer;
 use estimate::bytes::put_estimate;
-use lookup::numbers::expression_count;
 use predicate::filter_selectivity_for_predicate;
 use sheet::Sections;
 
 // The answer's bytes, where the output has room for them.
-fn write_estimate(s: &[u8], q: Sections, e: u16, out: &mut [u8]) -> Answer
+pub fn write_estimate(s: &[u8], q: Sections, e: u16, out: &mut [u8]) -> Answer
     ensures { λ r. ⌜ r ≡ answered (bytes (predicateBytes (sheetOf (now (s .entry)) q) e)) (now (out .entry)) ⌝ }
     ensures { λ _. ⌜ now (out .exit) ≡ leaves (bytes (predicateBytes (sheetOf (now (s .entry)) q) e)) (now (out .entry)) ⌝ }
 {
@@ -19,15 +18,4 @@ fn write_estimate(s: &[u8], q: Sections, e: u16, out: &mut [u8]) -> Answer
         return Answer::Written(26);
     }
     Answer::Refused(12)
-}
-
-// The call on a sheet that is accepted, with its sections' places.
-pub fn write_predicate(s: &[u8], q: Sections, e: u16, out: &mut [u8]) -> Answer
-    ensures { λ r. ⌜ r ≡ answered (namedResult (sheetOf (now (s .entry)) q) e (predicateBytes (sheetOf (now (s .entry)) q) e)) (now (out .entry)) ⌝ }
-    ensures { λ _. ⌜ now (out .exit) ≡ leaves (namedResult (sheetOf (now (s .entry)) q) e (predicateBytes (sheetOf (now (s .entry)) q) e)) (now (out .entry)) ⌝ }
-{
-    if e < expression_count(s, q) {
-        return write_estimate(s, q, e, out);
-    }
-    Answer::Refused(11)
 }

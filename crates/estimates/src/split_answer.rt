@@ -3,11 +3,10 @@ ghost use mathlib.Core.Path.{_≡_};
 ghost use Prim.Native.Nat.{_+_, _*_};
 ghost use lib.Dec.{leb};
 ghost use Rattle.sheet.specs.Sheet.{sheetOf};
-ghost use Rattle.estimates.specs.Answers.{bytes, answered, leaves, namedResult};
+ghost use Rattle.estimates.specs.Answers.{bytes, answered, leaves};
 ghost use Rattle.estimates.specs.Split.{splitBytes};
 use crate::answer::Answer;
 use le::writes::put_u16;
-use lookup::numbers::expression_count;
 use sheet::Sections;
 use split::count::conjunct_count;
 use split::write::put_conjuncts;
@@ -26,7 +25,7 @@ fn fits(n: u64, room: usize) -> bool
 }
 
 // The answer's bytes, where the output has room for them.
-fn write_conjuncts(s: &[u8], q: Sections, e: u16, out: &mut [u8]) -> Answer
+pub fn write_conjuncts(s: &[u8], q: Sections, e: u16, out: &mut [u8]) -> Answer
     ensures { λ r. ⌜ r ≡ answered (bytes (splitBytes (sheetOf (now (s .entry)) q) e)) (now (out .entry)) ⌝ }
     ensures { λ _. ⌜ now (out .exit) ≡ leaves (bytes (splitBytes (sheetOf (now (s .entry)) q) e)) (now (out .entry)) ⌝ }
 {
@@ -36,15 +35,4 @@ fn write_conjuncts(s: &[u8], q: Sections, e: u16, out: &mut [u8]) -> Answer
         return Answer::Written(2 + put_conjuncts(s, q, e, &mut out[2..]));
     }
     Answer::Refused(12)
-}
-
-// The call on a sheet that is accepted, with its sections' places.
-pub fn write_split(s: &[u8], q: Sections, e: u16, out: &mut [u8]) -> Answer
-    ensures { λ r. ⌜ r ≡ answered (namedResult (sheetOf (now (s .entry)) q) e (splitBytes (sheetOf (now (s .entry)) q) e)) (now (out .entry)) ⌝ }
-    ensures { λ _. ⌜ now (out .exit) ≡ leaves (namedResult (sheetOf (now (s .entry)) q) e (splitBytes (sheetOf (now (s .entry)) q) e)) (now (out .entry)) ⌝ }
-{
-    if e < expression_count(s, q) {
-        return write_conjuncts(s, q, e, out);
-    }
-    Answer::Refused(11)
 }

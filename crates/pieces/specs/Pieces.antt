@@ -51,9 +51,9 @@ piecesHasNumber value = scalarToF64 (scalarAt value 0) .present
 unfoldable pub piecesNumber : List ℕ → Float
 piecesNumber value = scalarToF64 (scalarAt value 0) .number
 
--- the fraction of four scalars, where there is one
-unfoldable pub piecesFraction : List ℕ → List ℕ → List ℕ → List ℕ → IntervalFraction
-piecesFraction lower upper overlapLower overlapUpper = scalarIntervalFraction (scalarAt lower 0) (scalarAt upper 0) (scalarAt overlapLower 0) (scalarAt overlapUpper 0)
+-- the fraction of four scalars, one behind the other
+unfoldable pub piecesFraction : List ℕ → IntervalFraction
+piecesFraction scalars = scalarIntervalFraction (scalarAt scalars 0) (scalarAt scalars 19) (scalarAt scalars 38) (scalarAt scalars 57)
 
 abbrev pub isFraction : IntervalFraction → Bool
 isFraction NoFraction = false
@@ -64,10 +64,10 @@ abbrev pub fractionNumber : IntervalFraction → Float
 fractionNumber NoFraction = f64Zero
 fractionNumber (Fraction x) = x
 
--- ---- columns' profiles, each the first 98 bytes of a list
+-- ---- two columns' profiles, one behind the other
 
-unfoldable pub piecesIntersection : List ℕ → List ℕ → Float → Float → DistinctIntersection
-piecesIntersection left right leftDistinct rightDistinct = estimatedDistinctIntersection (columnProfileAt left 0) (columnProfileAt right 0) leftDistinct rightDistinct
+unfoldable pub piecesIntersection : List ℕ → Float → Float → DistinctIntersection
+piecesIntersection columns leftDistinct rightDistinct = estimatedDistinctIntersection (columnProfileAt columns 0) (columnProfileAt columns 98) leftDistinct rightDistinct
 
 -- ---- estimates, each the first 26 bytes of a list
 

@@ -77,97 +77,75 @@ pub extern "C" fn pieces_number(value: &[u8]) -> f64
     number.number
 }
 
-fn fraction_of(
-    lower: &[u8],
-    upper: &[u8],
-    overlap_lower: &[u8],
-    overlap_upper: &[u8],
-) -> IntervalFraction
-    ensures { λ r. ⌜ r ≡ piecesFraction (now (lower .entry)) (now (upper .entry)) (now («overlap_lower» .entry)) (now («overlap_upper» .entry)) ⌝ }
+fn fraction_of(scalars: &[u8]) -> IntervalFraction
+    ensures { λ r. ⌜ r ≡ piecesFraction (now (scalars .entry)) ⌝ }
 {
     scalar_interval_fraction(
-        scalar_at(lower, 0),
-        scalar_at(upper, 0),
-        scalar_at(overlap_lower, 0),
-        scalar_at(overlap_upper, 0),
+        scalar_at(scalars, 0),
+        scalar_at(scalars, 19),
+        scalar_at(scalars, 38),
+        scalar_at(scalars, 57),
     )
 }
 
-// Whether four scalars of 19 bytes have a fraction.
+// Whether four scalars of 19 bytes, one behind the other, have a fraction.
 #[no_mangle]
-pub extern "C" fn pieces_has_fraction(
-    lower: &[u8],
-    upper: &[u8],
-    overlap_lower: &[u8],
-    overlap_upper: &[u8],
-) -> bool
-    ensures { λ r. ⌜ r ≡ isFraction (piecesFraction (now (lower .entry)) (now (upper .entry)) (now («overlap_lower» .entry)) (now («overlap_upper» .entry))) ⌝ }
+pub extern "C" fn pieces_has_fraction(scalars: &[u8]) -> bool
+    ensures { λ r. ⌜ r ≡ isFraction (piecesFraction (now (scalars .entry))) ⌝ }
 {
-    let fraction = fraction_of(lower, upper, overlap_lower, overlap_upper);
+    let fraction = fraction_of(scalars);
     match fraction {
         IntervalFraction::NoFraction => false,
         IntervalFraction::Fraction(_) => true,
     }
 }
 
-// The fraction of four scalars of 19 bytes, or +0.
+// Their fraction, or +0.
 #[no_mangle]
-pub extern "C" fn pieces_fraction(
-    lower: &[u8],
-    upper: &[u8],
-    overlap_lower: &[u8],
-    overlap_upper: &[u8],
-) -> f64
-    ensures { λ r. ⌜ r ≡ fractionNumber (piecesFraction (now (lower .entry)) (now (upper .entry)) (now («overlap_lower» .entry)) (now («overlap_upper» .entry))) ⌝ }
+pub extern "C" fn pieces_fraction(scalars: &[u8]) -> f64
+    ensures { λ r. ⌜ r ≡ fractionNumber (piecesFraction (now (scalars .entry))) ⌝ }
 {
-    let fraction = fraction_of(lower, upper, overlap_lower, overlap_upper);
+    let fraction = fraction_of(scalars);
     match fraction {
         IntervalFraction::NoFraction => 0.0,
         IntervalFraction::Fraction(x) => x,
     }
 }
 
-fn intersection_of(
-    left: &[u8],
-    right: &[u8],
-    left_distinct: f64,
-    right_distinct: f64,
-) -> DistinctIntersection
-    ensures { λ r. ⌜ r ≡ piecesIntersection (now (left .entry)) (now (right .entry)) «left_distinct» «right_distinct» ⌝ }
+fn intersection_of(columns: &[u8], left_distinct: f64, right_distinct: f64) -> DistinctIntersection
+    ensures { λ r. ⌜ r ≡ piecesIntersection (now (columns .entry)) «left_distinct» «right_distinct» ⌝ }
 {
     estimated_distinct_intersection(
-        column_profile_at(left, 0),
-        column_profile_at(right, 0),
+        column_profile_at(columns, 0),
+        column_profile_at(columns, 98),
         left_distinct,
         right_distinct,
     )
 }
 
-// How many distinct values two columns of 98 bytes share.
+// How many distinct values two columns of 98 bytes, one behind the other, share.
 #[no_mangle]
 pub extern "C" fn pieces_distinct_intersection(
-    left: &[u8],
-    right: &[u8],
+    columns: &[u8],
     left_distinct: f64,
     right_distinct: f64,
 ) -> f64
-    ensures { λ r. ⌜ r ≡ piecesIntersection (now (left .entry)) (now (right .entry)) «left_distinct» «right_distinct» .distinct ⌝ }
+    ensures { λ r. ⌜ r ≡ piecesIntersection (now (columns .entry)) «left_distinct» «right_distinct» .distinct ⌝ }
 {
-    let shared = intersection_of(left, right, left_distinct, right_distinct);
+    let shared = intersection_of(columns, left_distinct, right_distinct);
     shared.distinct
 }
 
-// Whether the ranges of two columns of 98 bytes are disjoint.
+// Whether their ranges are disjoint.
 #[no_mangle]
 pub extern "C" fn pieces_domains_disjoint(
-    left: &[u8],
-    right: &[u8],
+    columns: &[u8],
     left_distinct: f64,
     right_distinct: f64,
 ) -> bool
-    ensures { λ r. ⌜ r ≡ piecesIntersection (now (left .entry)) (now (right .entry)) «left_distinct» «right_distinct» .«domains_disjoint» ⌝ }
+    ensures { λ r. ⌜ r ≡ piecesIntersection (now (columns .entry)) «left_distinct» «right_distinct» .«domains_disjoint» ⌝ }
 {
-    let shared = intersection_of(left, right, left_distinct, right_distinct);
+    let shared = intersection_of(columns, left_distinct, right_distinct);
     shared.domains_disjoint
 }
 

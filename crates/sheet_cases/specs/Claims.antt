@@ -87,15 +87,12 @@ unfoldable pub answerFits : List ℕ → List ℕ → List ℕ → Bool
 answerFits s a c = leb (u32At c 4) (length s) && leb (u32At c 8 + u32At c 12) (length a)
 
 -- as yet a join's answer is not compared: the claim that is judged is that the sheet is accepted
-unfoldable pub judgeJoin : List ℕ → List ℕ → List ℕ → Verdict
-judgeJoin s a c = cond (answerFits s a c) (oneCase 14 (isSheet (take (u32At c 4) s))) unknown
+abbrev pub answerHolds : ℕ → List ℕ → ℕ → List ℕ → ℕ → ℕ → Bool
+answerHolds line s e a at size = cond (eqb line 15) (isPredicate s e a at size) (cond (eqb line 16) (isSplit s e a at size) (isSheet s))
 
--- the expression is u16At c 2
-unfoldable pub judgePredicate : List ℕ → List ℕ → List ℕ → Verdict
-judgePredicate s a c = cond (answerFits s a c) (oneCase 15 (isPredicate (take (u32At c 4) s) (u16At c 2) a (u32At c 8) (u32At c 12))) unknown
-
-unfoldable pub judgeSplit : List ℕ → List ℕ → List ℕ → Verdict
-judgeSplit s a c = cond (answerFits s a c) (oneCase 16 (isSplit (take (u32At c 4) s) (u16At c 2) a (u32At c 8) (u32At c 12))) unknown
+-- the expression is u16At c 2; line 14 counts joins, 15 predicates, 16 splits
+unfoldable pub judgeAnswer : ℕ → List ℕ → List ℕ → List ℕ → Verdict
+judgeAnswer line s a c = cond (answerFits s a c) (oneCase line (answerHolds line (take (u32At c 4) s) (u16At c 2) a (u32At c 8) (u32At c 12))) unknown
 
 -- by the kind, where s is the sheet's buffer and a the answer's
 unfoldable pub judge : List ℕ → List ℕ → List ℕ → Verdict
@@ -106,6 +103,6 @@ judge s a c =
     (cond (eqb kind 3) (judgeAccepted s c)
     (cond (eqb kind 4) (judgePrefixes s c)
     (cond (eqb kind 5) (judgeStore a c)
-    (cond (eqb kind 6) (judgeJoin s a c)
-    (cond (eqb kind 7) (judgePredicate s a c)
-    (cond (eqb kind 8) (judgeSplit s a c) unknown)))))))
+    (cond (eqb kind 6) (judgeAnswer 14 s a c)
+    (cond (eqb kind 7) (judgeAnswer 15 s a c)
+    (cond (eqb kind 8) (judgeAnswer 16 s a c) unknown)))))))

@@ -1,8 +1,8 @@
 // Whether what a command claims is so.
 ghost use mathlib.Core.Path.{_≡_};
-ghost use Prim.Native.Nat.{_≤_};
+ghost use Prim.Native.Nat.{_+_, _≤_, _<_, _^_};
 ghost use lib.ListN.{length};
-ghost use Rattle.sheet_cases.specs.Claims.{isRefused, placesOf, samePlaces, isAccepted, isSheet, differingBelow, unknown, oneCase, judgeStore, judgeRefused, judgeAccepted, judgePrefixes, answerFits, judgeJoin, judgePredicate, judgeSplit, judge};
+ghost use Rattle.sheet_cases.specs.Claims.{isRefused, placesOf, samePlaces, isAccepted, isSheet, differingBelow, unknown, oneCase, judgeStore, judgeRefused, judgeAccepted, judgePrefixes, answerFits, answerHolds, judgeAnswer, judge};
 ghost use Rattle.float.specs.Integers.{bit};
 use crate::entries::is_predicate;
 use crate::entries::is_split;
@@ -187,39 +187,26 @@ fn answer_fits(s: &[u8], a: &[u8], c: &[u8]) -> bool
     both(n <= s.len(), at + size <= a.len())
 }
 
-// As yet a join's answer is not compared: the claim that is judged is that the sheet is accepted.
-fn judge_join(s: &[u8], a: &[u8], c: &[u8]) -> Verdict
-    ensures { λ r. ⌜ r ≡ judgeJoin (now (s .entry)) (now (a .entry)) (now (c .entry)) ⌝ }
+// Whether an answer holds. As yet a join's is not compared: that the sheet is accepted is judged.
+fn answer_holds(line: u8, s: &[u8], e: u16, a: &[u8], at: usize, size: usize) -> bool
+    requires { ⌜ at + size < 2 ^ 40 ⌝ }
+    ensures { λ r. ⌜ r ≡ answerHolds line (now (s .entry)) e (now (a .entry)) at size ⌝ }
 {
-    if answer_fits(s, a, c) {
-        let n = u32_at(c, 4) as usize;
-        one_case(14, is_sheet(&s[..n]))
-    } else {
-        unknown()
+    match line {
+        15 => is_predicate(s, e, a, at, size),
+        16 => is_split(s, e, a, at, size),
+        _ => is_sheet(s),
     }
 }
 
-fn judge_predicate(s: &[u8], a: &[u8], c: &[u8]) -> Verdict
-    ensures { λ r. ⌜ r ≡ judgePredicate (now (s .entry)) (now (a .entry)) (now (c .entry)) ⌝ }
+fn judge_answer(line: u8, s: &[u8], a: &[u8], c: &[u8]) -> Verdict
+    ensures { λ r. ⌜ r ≡ judgeAnswer line (now (s .entry)) (now (a .entry)) (now (c .entry)) ⌝ }
 {
     if answer_fits(s, a, c) {
         let n = u32_at(c, 4) as usize;
         let at = u32_at(c, 8) as usize;
         let size = u32_at(c, 12) as usize;
-        one_case(15, is_predicate(&s[..n], u16_at(c, 2), a, at, size))
-    } else {
-        unknown()
-    }
-}
-
-fn judge_split(s: &[u8], a: &[u8], c: &[u8]) -> Verdict
-    ensures { λ r. ⌜ r ≡ judgeSplit (now (s .entry)) (now (a .entry)) (now (c .entry)) ⌝ }
-{
-    if answer_fits(s, a, c) {
-        let n = u32_at(c, 4) as usize;
-        let at = u32_at(c, 8) as usize;
-        let size = u32_at(c, 12) as usize;
-        one_case(16, is_split(&s[..n], u16_at(c, 2), a, at, size))
+        one_case(line, answer_holds(line, &s[..n], u16_at(c, 2), a, at, size))
     } else {
         unknown()
     }
@@ -236,9 +223,9 @@ pub fn judge(s: &[u8], a: &[u8], c: &[u8]) -> Verdict
         3 => judge_accepted(s, c),
         4 => judge_prefixes(s, c),
         5 => judge_store(a, c),
-        6 => judge_join(s, a, c),
-        7 => judge_predicate(s, a, c),
-        8 => judge_split(s, a, c),
+        6 => judge_answer(14, s, a, c),
+        7 => judge_answer(15, s, a, c),
+        8 => judge_answer(16, s, a, c),
         _ => unknown(),
     }
 }

@@ -15,39 +15,17 @@ mod c {
         ) -> u64;
         pub fn pieces_has_number(value: *const u8, length: usize) -> bool;
         pub fn pieces_number(value: *const u8, length: usize) -> f64;
-        pub fn pieces_has_fraction(
-            lower: *const u8,
-            lower_length: usize,
-            upper: *const u8,
-            upper_length: usize,
-            overlap_lower: *const u8,
-            overlap_lower_length: usize,
-            overlap_upper: *const u8,
-            overlap_upper_length: usize,
-        ) -> bool;
-        pub fn pieces_fraction(
-            lower: *const u8,
-            lower_length: usize,
-            upper: *const u8,
-            upper_length: usize,
-            overlap_lower: *const u8,
-            overlap_lower_length: usize,
-            overlap_upper: *const u8,
-            overlap_upper_length: usize,
-        ) -> f64;
+        pub fn pieces_has_fraction(scalars: *const u8, length: usize) -> bool;
+        pub fn pieces_fraction(scalars: *const u8, length: usize) -> f64;
         pub fn pieces_distinct_intersection(
-            left: *const u8,
-            left_length: usize,
-            right: *const u8,
-            right_length: usize,
+            columns: *const u8,
+            length: usize,
             left_distinct: f64,
             right_distinct: f64,
         ) -> f64;
         pub fn pieces_domains_disjoint(
-            left: *const u8,
-            left_length: usize,
-            right: *const u8,
-            right_length: usize,
+            columns: *const u8,
+            length: usize,
             left_distinct: f64,
             right_distinct: f64,
         ) -> bool;
@@ -113,56 +91,24 @@ pub fn scalar_to_f64(value: &[u8]) -> Option<f64> {
     has.then_some(number)
 }
 
-pub fn fraction(of: [&[u8]; 4]) -> Option<f64> {
-    let [lower, upper, overlap_lower, overlap_upper] = of;
+/// The fraction of four scalars, one behind the other.
+pub fn fraction(scalars: &[u8]) -> Option<f64> {
     let (has, number) = unsafe {
         (
-            c::pieces_has_fraction(
-                lower.as_ptr(),
-                lower.len(),
-                upper.as_ptr(),
-                upper.len(),
-                overlap_lower.as_ptr(),
-                overlap_lower.len(),
-                overlap_upper.as_ptr(),
-                overlap_upper.len(),
-            ),
-            c::pieces_fraction(
-                lower.as_ptr(),
-                lower.len(),
-                upper.as_ptr(),
-                upper.len(),
-                overlap_lower.as_ptr(),
-                overlap_lower.len(),
-                overlap_upper.as_ptr(),
-                overlap_upper.len(),
-            ),
+            c::pieces_has_fraction(scalars.as_ptr(), scalars.len()),
+            c::pieces_fraction(scalars.as_ptr(), scalars.len()),
         )
     };
     has.then_some(number)
 }
 
-/// How many values two columns share, and whether their ranges are disjoint.
-pub fn intersection(left: &[u8], right: &[u8], distincts: [f64; 2]) -> (f64, bool) {
-    let [a, b] = distincts;
+/// How many values two columns, one behind the other, share, and whether their ranges are disjoint.
+pub fn intersection(columns: &[u8], distincts: [f64; 2]) -> (f64, bool) {
+    let [left, right] = distincts;
     unsafe {
         (
-            c::pieces_distinct_intersection(
-                left.as_ptr(),
-                left.len(),
-                right.as_ptr(),
-                right.len(),
-                a,
-                b,
-            ),
-            c::pieces_domains_disjoint(
-                left.as_ptr(),
-                left.len(),
-                right.as_ptr(),
-                right.len(),
-                a,
-                b,
-            ),
+            c::pieces_distinct_intersection(columns.as_ptr(), columns.len(), left, right),
+            c::pieces_domains_disjoint(columns.as_ptr(), columns.len(), left, right),
         )
     }
 }

@@ -111,19 +111,16 @@ fn bounds(column: &Column) -> Option<[Scalar; 2]> {
 fn compare_fraction(range: [Scalar; 2], overlap: [Scalar; 2], report: &mut Report) {
     let all = [range[0], range[1], overlap[0], overlap[1]];
     let values = all.map(|scalar| scalar_of(&scalar));
-    let bytes = all.map(|scalar| scalar_bytes(Some(&scalar)));
+    let bytes = all.map(|scalar| scalar_bytes(Some(&scalar))).concat();
     let expected = pieces::fraction(values.each_ref());
-    let answer = library::fraction(bytes.each_ref().map(|bytes| bytes.as_slice()));
+    let answer = library::fraction(&bytes);
     report.compared("scalar_interval_fraction", same(answer, expected));
 }
 
 fn compare_columns(left: &Column, right: &Column, report: &mut Report) {
     let (distinct, disjoint) = pieces::intersection(left, right);
-    let answer = library::intersection(
-        &column_bytes(left),
-        &column_bytes(right),
-        [left.distinct.value, right.distinct.value],
-    );
+    let columns = [column_bytes(left), column_bytes(right)].concat();
+    let answer = library::intersection(&columns, [left.distinct.value, right.distinct.value]);
     let agrees = answer.0.to_bits() == distinct.to_bits() && answer.1 == disjoint;
     report.compared("estimated_distinct_intersection", agrees);
     if let (Some(left), Some(right)) = (bounds(left), bounds(right)) {

@@ -1,7 +1,7 @@
 -- `judge` meets its contract: each arm returns what `cond` picks for the kind. Assumes nothing.
 use borrow.Author.Tests.{ne-eqb}
-use Rattle.sheet_cases.specs.Claims.{judge}
 use borrow.Author.Needs.{needs}
+use Rattle.sheet_cases.specs.Claims.{judge}
 use Rattle.sheet_cases.proofs.claims.judge.Statement.{statement}
 use Rattle.sheet_cases.proofs.claims.judge.Tie as tie
 
@@ -23,14 +23,14 @@ judge-prefixes-requires c κs = search needs
 judge-store-requires-2 : tie.Need-judge-store-requires-2
 judge-store-requires-2 c κs = search needs
 
-judge-join-requires : tie.Need-judge-join-requires
-judge-join-requires c κs = search needs
+judge-answer-requires : tie.Need-judge-answer-requires
+judge-answer-requires c κs = search needs
 
-judge-predicate-requires : tie.Need-judge-predicate-requires
-judge-predicate-requires c κs = search needs
+judge-answer-requires-2 : tie.Need-judge-answer-requires-2
+judge-answer-requires-2 c κs = search needs
 
-judge-split-requires : tie.Need-judge-split-requires
-judge-split-requires c κs = search needs
+judge-answer-requires-3 : tie.Need-judge-answer-requires-3
+judge-answer-requires-3 c κs = search needs
 
 unknown-requires : tie.Need-unknown-requires
 unknown-requires c κs = search needs
@@ -57,15 +57,15 @@ returns-5 c = rw (← c .before .before .byte-at .ensures, c .before .match .key
 
 returns-6 : tie.Need-returns-6
 unfolding judge
-returns-6 c = rw (← c .before .before .byte-at .ensures, c .before .match .keys6) (c .judge-join .ensures)
+returns-6 c = rw (← c .before .before .byte-at .ensures, c .before .match .keys6) (c .judge-answer .ensures)
 
 returns-7 : tie.Need-returns-7
 unfolding judge
-returns-7 c = rw (← c .before .before .byte-at .ensures, c .before .match .keys7) (c .judge-predicate .ensures)
+returns-7 c = rw (← c .before .before .byte-at .ensures, c .before .match .keys7) (c .judge-answer2 .ensures)
 
 returns-8 : tie.Need-returns-8
 unfolding judge
-returns-8 c = rw (← c .before .before .byte-at .ensures, c .before .match .keys8) (c .judge-split .ensures)
+returns-8 c = rw (← c .before .before .byte-at .ensures, c .before .match .keys8) (c .judge-answer3 .ensures)
 
 returns-9 : tie.Need-returns-9
 unfolding judge
@@ -83,9 +83,9 @@ judge-spec =
     judge-accepted-requires
     judge-prefixes-requires
     judge-store-requires-2
-    judge-join-requires
-    judge-predicate-requires
-    judge-split-requires
+    judge-answer-requires
+    judge-answer-requires-2
+    judge-answer-requires-3
     unknown-requires
     returns
     returns-2

@@ -1,0 +1,34 @@
+-- `answer_holds` meets its contract: each arm returns what `cond` picks. Assumes nothing.
+use borrow.Author.Tests.{ne-eqb}
+use borrow.Author.Needs.{needs}
+use Rattle.sheet_cases.proofs.claims.answer_holds.Statement.{statement}
+use Rattle.sheet_cases.proofs.claims.answer_holds.Tie as tie
+
+is-predicate-requires : tie.Need-is-predicate-requires
+is-predicate-requires c κs = search needs
+
+is-split-requires : tie.Need-is-split-requires
+is-split-requires c κs = search needs
+
+is-sheet-requires : tie.Need-is-sheet-requires
+is-sheet-requires c κs = search needs
+
+returns : tie.Need-returns
+returns c = rw (c .before .match .keys1) (c .is-predicate .ensures)
+
+returns-2 : tie.Need-returns-2
+returns-2 c = rw (c .before .match .keys2) (c .is-split .ensures)
+
+returns-3 : tie.Need-returns-3
+returns-3 c = let rest = c .before .match .rest in rw (ne-eqb _ 15 (rest .0 .1), ne-eqb _ 16 (rest .1)) (c .is-sheet .ensures)
+
+pub answer-holds-spec : {M : Type 1} → statement M
+answer-holds-spec =
+    tie.close
+    (tie.spec
+    is-predicate-requires
+    is-split-requires
+    is-sheet-requires
+    returns
+    returns-2
+    returns-3)
