@@ -1,14 +1,11 @@
 -- How many distinct values two columns share: a number from 0 to the larger of 1 and the smaller distinct, and not -0, where the bounds and the distincts are such as a sheet may hold. Assumes nothing.
 use mathlib.Core.Path.{_≡_, refl}
 use mathlib.Core.Bool.{Bool, true, false, cond, _||_}
-use Prim.Native.Nat.{_*_}
-use native.Mathlib.Nat as Nat
 use lib.Dec.{T, lit≤}
 use lib.Ieee.{Float, binary64, mul, lt, le}
-use lib.Ieee.Positive.{num, den}
 use Rattle.float.specs.Order.{f64Zero, f64One, f64Max, f64Min, nonneg, Unit01}
 use Rattle.float.proofs.UnitLaws.{zero-unit}
-use Rattle.float.proofs.NonNegLaws.{cross-le, le-trans, not-lt-le}
+use Rattle.float.proofs.NonNegLaws.{le-trans, not-lt-le}
 use Rattle.float.proofs.OrderLaws.{lt-le}
 use Rattle.scalar.specs.Order.{scalarOrder, isEqual}
 use Rattle.scalar.specs.declared.Scalar.{Scalar}
@@ -21,6 +18,7 @@ use Rattle.units.specs.Sizes.{UpTo}
 use Rattle.units.proofs.ScalarLaws.{holds}
 use Rattle.units.proofs.SizeLaws.{le-up-to, up-to-le, unit-up-to, zero-up-to, one-up-to, max-up-to, mul-up-to}
 use Rattle.units.proofs.FigureLaws.{figure-up-to}
+use Rattle.units.proofs.UnitOperations.{le-own}
 use Rattle.interval.specs.Fraction.{scalarIntervalFraction}
 use Rattle.interval.specs.Intersection.{zipBounds, overlapping, disjoint, overlapLower, overlapUpper, atLeastPoint, sharedDistinct, overlapDistinct, boundedIntersection, zippedIntersection, estimatedDistinctIntersection}
 use Rattle.interval.specs.declared.fraction.IntervalFraction.{IntervalFraction}
@@ -31,9 +29,6 @@ use Rattle.fraction_range.specs.Distinct.{LawfulBounds, DistinctWithin}
 use Rattle.fraction_range.proofs.RangeFractionLaws.{left-unit, right-unit}
 
 -- ---- the smaller and the larger of two
-le-own : (x : Float) → T (nonneg x) → T (le x x)
-le-own x p = cross-le x x p p (Nat.le-refl (num x * den x))
-
 min-up-to : (x y : Float) → UpTo 64 x → UpTo 64 y → UpTo 64 (f64Min x y)
 min-up-to x y u v = go (lt y x)
   where

@@ -1,11 +1,10 @@
 -- A column against a literal by its range, and the part of its rows that is not null. Assumes nothing.
-use mathlib.Core.Path.{_≡_, refl}
+use mathlib.Core.Path.{_≡_}
 use mathlib.Core.Bool.{true, _&&_}
 use lib.Ieee.{Float}
-use Rattle.float.specs.Order.{f64Zero, Unit01}
+use Rattle.float.specs.Order.{Unit01}
 use Rattle.scalar.specs.Number.{scalarToF64}
 use Rattle.scalar.specs.declared.Scalar.{Scalar}
-use Rattle.scalar.specs.declared.Scalar.the-variants.{Null}
 use Rattle.scalar.specs.declared.Bound.{Bound}
 use Rattle.scalar.specs.declared.Bound.the-variants.{Absent, Present}
 use Rattle.scalar_bytes.specs.Encoding.{lawfulScalar, lawfulBound}
@@ -17,7 +16,7 @@ use Rattle.records.specs.declared.expressions.BinaryOp.the-variants.{Eq, IsNotD
 use Rattle.units.specs.Sizes.{Tame}
 use Rattle.units.proofs.FigureLaws.{non-null-unit}
 use Rattle.units.proofs.TameLaws.{share-below-unit, share-above-unit}
-use Rattle.units.proofs.ScalarLaws.{scalar-tame}
+use Rattle.units.proofs.ScalarLaws.{zero-tame, scalar-tame}
 use Rattle.range.specs.Selectivity.{unitEstimate, nonNullFraction}
 use Rattle.range.specs.Range.{boundNumber, width, selected, rangeOf, rangeSelectivity}
 use Rattle.predicate_range.specs.Range.{BoundedInUnit}
@@ -30,13 +29,9 @@ unfolding nonNullFraction
 fraction-unit frequency rows f g = non-null-unit frequency rows f g
 
 -- ---- the range
-no-number-tame : Tame f64Zero
-unfolding lawfulScalar scalarToF64
-no-number-tame = scalar-tame Null refl
-
 bound-tame : (x : Bound) → lawfulBound x ≡ true → Tame (boundNumber x .number)
 unfolding lawfulBound
-bound-tame Absent h = no-number-tame
+bound-tame Absent h = zero-tame
 bound-tame (Present x) h = scalar-tame x h
 
 selected-unit : (op : BinaryOp) (fallback min max value : Float) → Unit01 fallback → Tame min → Tame max → Tame value → Unit01 (selected op fallback min max value)

@@ -2,19 +2,16 @@
 use mathlib.Core.Path.{refl, sym, subst}
 use mathlib.Core.Logic.{inl, inr}
 use mathlib.Core.Bool.{Bool, true, false}
-use Prim.Native.Nat.{_*_}
-use native.Mathlib.Nat as Nat
 use lib.Dec.{T}
 use lib.IntN.{negsuc}
 use lib.Ieee.{Float, fin, le}
 use lib.Ieee.Fits.{and-l, and-r}
 use lib.Ieee.Positive as Positive
-use lib.Ieee.Positive.{num, den}
 use Rattle.float.specs.Order.{f64Zero, f64One, Unit01}
 use Rattle.float.specs.Ranges.{plusZero, between}
 use Rattle.float.specs.Option.{some}
 use Rattle.float.proofs.RangeLaws.{plus-zero-is}
-use Rattle.float.proofs.NonNegLaws.{cross-le, not-lt-le}
+use Rattle.float.proofs.NonNegLaws.{not-lt-le}
 use Rattle.float.proofs.UnitLaws.{zero-unit, one-unit}
 use Rattle.scalar.specs.declared.Scalar.{Scalar}
 use Rattle.scalar.specs.declared.Scalar.the-variants.{Null, Boolean, Int32, Int64, Float64, Decimal128, Date32, IntervalMonthDayNano, IntervalDayTime}
@@ -23,7 +20,7 @@ use Rattle.sheet.specs.Sheet.{Sheet}
 use Rattle.lawful.specs.Lawful.{LawfulSelectivity, LawfulSheet}
 use Rattle.units.proofs.SizeLaws.{nonneg-ordinary}
 use Rattle.units.proofs.FigureLaws.{or-split, positive-nonneg}
-use Rattle.units.proofs.UnitOperations.{nonneg-not-below, unit-estimate}
+use Rattle.units.proofs.UnitOperations.{nonneg-not-below, le-own, unit-estimate}
 use Rattle.range.specs.Selectivity.{unitEstimate, defaultEstimate}
 use Rattle.predicate.specs.Predicate.{truthEstimate, literalEstimate}
 use Rattle.predicate_range.specs.Range.{BoundedInUnit}
@@ -45,9 +42,6 @@ selectivity-unit x h = elim (or-split (plusZero x) (between least f64One x) (h .
 from-zero : (x : Float) → Unit01 x → T (le f64Zero x)
 from-zero x u = not-lt-le x f64Zero (u .low) tt (nonneg-not-below x (u .low))
 
-own-level : (x : Float) → Unit01 x → T (le x x)
-own-level x u = cross-le x x (u .low) (u .low) (Nat.le-refl (num x * den x))
-
 pub unit-bounded : (x : Float) → Unit01 x → BoundedInUnit (unitEstimate x)
 unfolding unitEstimate derived
 unit-bounded x u =
@@ -56,7 +50,7 @@ unit-bounded x u =
 
 pub exact-bounded : (x : Float) → Unit01 x → BoundedInUnit (exact x)
 unfolding exact
-exact-bounded x u = record { value = u; lower = u; upper = u; hasLower = refl; hasUpper = refl; above = own-level x u; below = own-level x u }
+exact-bounded x u = record { value = u; lower = u; upper = u; hasLower = refl; hasUpper = refl; above = le-own x (u .low); below = le-own x (u .low) }
 
 -- ---- the default, Like and a literal
 pub default-bounded : (sheet : Sheet) → LawfulSheet sheet → BoundedInUnit (defaultEstimate sheet)

@@ -1,13 +1,15 @@
 -- Operations on values from 0 to 1 that give such values: the estimate with the bounds 0 and 1, the complement, the quotient by a number that is no less than 1, and the clamped sum. Assumes nothing.
 use mathlib.Core.Path.{_≡_, refl, ap, _∙_}
 use mathlib.Core.Bool.{Bool, true, false, cond}
-use native.Mathlib.Nat.{not-le-of-lt}
+use Prim.Native.Nat.{_*_}
+use native.Mathlib.Nat.{le-refl, not-le-of-lt}
 use lib.Dec.{T, lit≤}
 use lib.Ieee.{Float, nan, inf, fin, binary64, add, sub, div, lt, le, fits}
+use lib.Ieee.Positive.{num, den}
 use Rattle.float.specs.Order.{f64Zero, f64One, clampUnit, nonneg, ordinary, Unit01}
 use Rattle.float.specs.Option.{some}
 use Rattle.float.proofs.SignLaws.{zero-least}
-use Rattle.float.proofs.NonNegLaws.{le-cross, lt-cross}
+use Rattle.float.proofs.NonNegLaws.{cross-le, le-cross, lt-cross}
 use Rattle.float.proofs.UnitLaws.{zero-unit, one-unit, clamped-unit}
 use Rattle.estimate.specs.Estimates.{clampToBounds, derived}
 use Rattle.units.proofs.SizeLaws.{le-at-least, unit-up-to, up-to-unit, add-up-to, sub-up-to, div-up-to, clamped-up-to}
@@ -18,6 +20,9 @@ nonneg-not-below nan p = absurd p
 nonneg-not-below (inf s) p = absurd p
 nonneg-not-below (fin true m e) p = absurd p
 nonneg-not-below (fin false m e) p = zero-least m e
+
+pub le-own : (x : Float) → T (nonneg x) → T (le x x)
+le-own x p = cross-le x x p p (le-refl (num x * den x))
 
 pub le-not-lt : (x y : Float) → T (nonneg x) → T (nonneg y) → T (le x y) → lt y x ≡ false
 le-not-lt x y p q h = go (lt y x) refl
