@@ -12,13 +12,9 @@ use Rattle.sheet.specs.declared.Sections.{Sections}
 use Rattle.sheet.specs.declared.Checked.{Checked}
 use Rattle.sheet.specs.declared.Checked.the-variants.{Refused as SheetRefused, Accepted}
 use Rattle.sheet.proofs.AcceptedLaws.{accepted}
-use Rattle.estimates.specs.Answers.{Result, refusal, bytes, answered, leaves, namedResult, sheetResult, expressionResult}
+use Rattle.estimates.specs.Answers.{Result, refusal, bytes, answered, leaves, Comes, namedResult, sheetResult}
 use Rattle.estimates.specs.declared.answer.Answer.{Answer}
 use Rattle.estimates.specs.declared.answer.Answer.the-variants.{Refused, Written}
-
--- the answer and the output that a result comes to
-abbrev pub Comes : Result → List ℕ → Answer → List ℕ → Type 0
-Comes result out answer after = (answer ≡ answered result out) × (after ≡ leaves result out)
 
 -- ---- a result
 
@@ -49,13 +45,13 @@ pub named-out : (sheet : Sheet) (e : ℕ) (bs : List ℕ) → length (sheet .exp
 unfolding namedResult
 named-out sheet e bs h = rw (le-ltb _ _ h) refl
 
-module _ (s : List ℕ) (e : ℕ) (answer : Sheet → ℕ → List ℕ) (c : Checked) (f : c ≡ check s) where
-  pub sheet-refused : (n : ℕ) → c ≡ SheetRefused n → refusal n ≡ expressionResult s e answer
-  unfolding expressionResult
-  sheet-refused n g = ap (λ (d : Checked). sheetResult d (namedResult (sheetIn s) e (answer (sheetIn s) e))) (sym g ∙ f)
+-- the result of an accepted sheet, and the sheet's own refusal before it
+module _ (s : List ℕ) (result : Sheet → Result) (c : Checked) (f : c ≡ check s) where
+  pub sheet-refused : (n : ℕ) → c ≡ SheetRefused n → refusal n ≡ sheetResult (check s) (result (sheetIn s))
+  sheet-refused n g = ap (λ (d : Checked). sheetResult d (result (sheetIn s))) (sym g ∙ f)
 
-  pub sheet-accepted : (q : Sections) → c ≡ Accepted q → namedResult (sheetOf s q) e (answer (sheetOf s q) e) ≡ expressionResult s e answer
-  unfolding expressionResult sheetIn
+  pub sheet-accepted : (q : Sections) → c ≡ Accepted q → result (sheetOf s q) ≡ sheetResult (check s) (result (sheetIn s))
+  unfolding sheetIn
   sheet-accepted q g =
-      ap (λ (x : Sections). namedResult (sheetOf s x) e (answer (sheetOf s x) e)) (sym (accepted s q (sym f ∙ g) .1))
-      ∙ ap (λ (d : Checked). sheetResult d (namedResult (sheetIn s) e (answer (sheetIn s) e))) (sym g ∙ f)
+      ap (λ (x : Sections). result (sheetOf s x)) (sym (accepted s q (sym f ∙ g) .1))
+      ∙ ap (λ (d : Checked). sheetResult d (result (sheetIn s))) (sym g ∙ f)

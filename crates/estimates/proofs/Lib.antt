@@ -1,3 +1,6 @@
 pub mod AnswerLaws
 pub mod PredicateLaws
 pub mod SplitLaws
+pub mod CopyLaws
+pub mod ConjunctLaws
+pub mod JoinLaws

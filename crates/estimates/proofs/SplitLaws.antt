@@ -11,20 +11,10 @@ use Rattle.le.specs.Fields.{fieldBytes, u16Bytes, onto}
 use Rattle.le.proofs.FieldLaws.{bytes-length}
 use Rattle.le.proofs.OntoLaws.{onto-part}
 use Rattle.sheet.specs.Sheet.{Sheet}
-use Rattle.split.specs.Conjuncts.{numbersBytes, conjuncts}
-use Rattle.split.proofs.ConjunctLaws.{numbers-length}
+use Rattle.number_bytes.specs.Numbers.{numbersBytes}
+use Rattle.number_bytes.proofs.NumberLaws.{numbers-length, short-bytes}
+use Rattle.split.specs.Conjuncts.{conjuncts}
 use Rattle.estimates.specs.Split.{splitBytes}
-
--- two bytes hold a number up to its remainder
-pub short-bytes : (n : ℕ) → u16Bytes (n % 65536) ≡ u16Bytes n
-unfolding fieldBytes
-short-bytes n = rw (low n, high n) refl
-  where
-    low : (n : ℕ) → n % 65536 % 256 ≡ n % 256
-    low n = omega arith
-
-    high : (n : ℕ) → n % 65536 / 256 % 256 ≡ n / 256 % 256
-    high n = omega arith
 
 module _ (sheet : Sheet) (e : ℕ) where
   pub split-length : length (splitBytes sheet e) ≡ 2 + 2 * length (conjuncts sheet e)

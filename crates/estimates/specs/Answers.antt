@@ -1,5 +1,6 @@
 -- What a call answers and what it leaves in the output that it was lent (document 01, "Where a sheet is turned back"). Definitions only.
 use Prim.Native.Nat.{ℕ, _+_, _^_}
+use mathlib.Core.Path.{_≡_}
 use mathlib.Core.Bool.{cond}
 use mathlib.Core.List.{List}
 use lib.Dec.{leb, ltb}
@@ -27,6 +28,10 @@ unfoldable pub leaves : Result → List ℕ → List ℕ
 unfolding onto
 leaves (refusal n) out = out
 leaves (bytes bs) out = cond (leb (length bs) (length out)) (onto bs out) out
+
+-- what an entry promises: a call that was lent `out` gives this answer and leaves `after` in its place
+abbrev pub Comes : Result → List ℕ → Answer → List ℕ → Type 0
+Comes result out answer after = (answer ≡ answered result out) × (after ≡ leaves result out)
 
 -- one number for programs in other languages
 abbrev pub answerNumber : Answer → ℕ

@@ -4,7 +4,8 @@ use mathlib.Core.List.{List, _++_}
 use lib.ListN.{length}
 use Rattle.le.specs.Fields.{fieldBytes, u16Bytes}
 use Rattle.sheet.specs.Sheet.{Sheet}
-use Rattle.split.specs.Conjuncts.{numbersBytes, conjuncts}
+use Rattle.number_bytes.specs.Numbers.{numbersBytes}
+use Rattle.split.specs.Conjuncts.{conjuncts}
 use Rattle.estimates.specs.Answers.{Result, expressionResult}
 
 unfoldable pub splitBytes : Sheet → ℕ → List ℕ

@@ -140,6 +140,10 @@ module _ (s : List ℕ) (bytes : Bytes s) (kept : sheetRefusal s ≡ 0) where
   unfolding countWithin
   operand-count = subst (λ (n : ℕ). n ≤ 512) (sym (records-length Operands u16At s (sectionAt s 10))) (leb-true (u16At s (sectionAt s 10)) 512 (count-kept 10 (omega arith)))
 
+  conjunct-count : length (recordsIn Conjuncts u16At s (sectionAt s 11)) ≤ 64
+  unfolding countWithin
+  conjunct-count = subst (λ (n : ℕ). n ≤ 64) (sym (records-length Conjuncts u16At s (sectionAt s 11))) (leb-true (u16At s (sectionAt s 11)) 64 (count-kept 11 (omega arith)))
+
   -- ---- the sheet
 
   pub accepted-sheet : LawfulSheet (sheetIn s)
@@ -157,5 +161,6 @@ module _ (s : List ℕ) (bytes : Bytes s) (kept : sheetRefusal s ≡ 0) where
     expressions = expressions;
     operandCount = operand-count;
     operands = operands;
+    conjunctCount = conjunct-count;
     conjuncts = conjuncts;
   }

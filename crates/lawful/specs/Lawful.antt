@@ -109,4 +109,5 @@ pub record LawfulSheet (x : Sheet) : Type 0 where
   pub expressions : (e : ℕ) → e < length (x .expressions) → LawfulExpression e (getD (x .expressions) e Other)
   pub operandCount : length (x .operands) ≤ 512
   pub operands : (e : ℕ) → e < length (x .expressions) → (op : NaryOp) (first count : ℕ) → getD (x .expressions) e Other ≡ Nary op first count → LawfulRun (x .operands) e first count
+  pub conjunctCount : length (x .conjuncts) ≤ 64
   pub conjuncts : Each (λ (e : ℕ). e < length (x .expressions)) (x .conjuncts)

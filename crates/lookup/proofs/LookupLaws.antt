@@ -16,12 +16,12 @@ use Rattle.records.specs.Expressions.{expressionAt}
 use Rattle.records.specs.declared.columns.ColumnProfile.{ColumnProfile}
 use Rattle.records.specs.declared.expressions.Expression.the-variants.{Other}
 use Rattle.records.proofs.ListLaws.{tabulate-alike, tabulate-step, tabulate-end}
-use Rattle.sheet.specs.Sheet.{recordIn, recordsIn, sheetOf}
+use Rattle.sheet.specs.Sheet.{Sheet, recordIn, recordsIn, sheetOf}
 use Rattle.sheet.specs.declared.Sections.{Sections}
 use Rattle.sheet.specs.declared.order.Kind.the-variants.{Columns, Expressions, Operands}
 use Rattle.sheet.proofs.PlaceLaws.{columns-fixed, expressions-fixed, operands-fixed, fixed-place}
 use Rattle.sheet.proofs.SheetLaws.{records-length, fixed-record-at}
-use Rattle.lookup.specs.Lookup.{expressionOf, operandIn, operandsOf, profileIn, orElseProfile, profileAndRows}
+use Rattle.lookup.specs.Lookup.{expressionOf, operandIn, operandsOf, profileIn, leftProfile, rightProfile, orElseProfile, profileAndRows}
 use Rattle.lookup.specs.declared.profiles.ProfileAndRows.{ProfileAndRows}
 use Rattle.lookup.specs.declared.profiles.ProfileAndRows.the-variants.{Absent, Present}
 
@@ -131,17 +131,21 @@ module _ (s : List ℕ) (start : ℕ) (rows : Float) (column : ℕ) where
 
 -- ---- the left side's profile, and the right side's where there is none
 
+-- a side's profile, by where its columns stand
 module _ (s : List ℕ) (q : Sections) (column : ℕ) (rows : Float) (x : ProfileAndRows) where
-  pub profile-left : (p : ColumnProfile) (r : Float) → rows ≡ sheetOf s q .leftRows .value → x ≡ profileIn rows column (recordsIn Columns columnProfileAt s (q .«left_columns»)) → x ≡ Present p r → Present p r ≡ profileAndRows (sheetOf s q) column
-  unfolding profileAndRows sheetOf
-  profile-left p r e f g =
-      let found = ap (λ (z : Float). profileIn z column (recordsIn Columns columnProfileAt s (q .«left_columns»))) (sym e) ∙ sym f ∙ g in
-      sym (ap (λ (y : ProfileAndRows). orElseProfile y (profileIn (sheetOf s q .rightRows .value) column (sheetOf s q .rightColumns))) found)
+  pub left-is : rows ≡ sheetOf s q .leftRows .value → x ≡ profileIn rows column (recordsIn Columns columnProfileAt s (q .«left_columns»)) → x ≡ leftProfile (sheetOf s q) column
+  unfolding sheetOf
+  left-is e f = f ∙ ap (λ (z : Float). profileIn z column (recordsIn Columns columnProfileAt s (q .«left_columns»))) e
 
-  pub profile-right : (rightRows : Float) (y : ProfileAndRows) → rows ≡ sheetOf s q .leftRows .value → x ≡ profileIn rows column (recordsIn Columns columnProfileAt s (q .«left_columns»)) → x ≡ Absent
-      → rightRows ≡ sheetOf s q .rightRows .value → y ≡ profileIn rightRows column (recordsIn Columns columnProfileAt s (q .«right_columns»)) → y ≡ profileAndRows (sheetOf s q) column
-  unfolding profileAndRows sheetOf
-  profile-right rightRows y e f g h k =
-      let found = ap (λ (z : Float). profileIn z column (recordsIn Columns columnProfileAt s (q .«left_columns»))) (sym e) ∙ sym f ∙ g in
-      k ∙ ap (λ (z : Float). profileIn z column (recordsIn Columns columnProfileAt s (q .«right_columns»))) h
-      ∙ sym (ap (λ (z : ProfileAndRows). orElseProfile z (profileIn (sheetOf s q .rightRows .value) column (sheetOf s q .rightColumns))) found)
+  pub right-is : rows ≡ sheetOf s q .rightRows .value → x ≡ profileIn rows column (recordsIn Columns columnProfileAt s (q .«right_columns»)) → x ≡ rightProfile (sheetOf s q) column
+  unfolding sheetOf
+  right-is e f = f ∙ ap (λ (z : Float). profileIn z column (recordsIn Columns columnProfileAt s (q .«right_columns»))) e
+
+module _ (sheet : Sheet) (column : ℕ) (x : ProfileAndRows) (is : x ≡ leftProfile sheet column) where
+  pub profile-left : (p : ColumnProfile) (r : Float) → x ≡ Present p r → Present p r ≡ profileAndRows sheet column
+  unfolding profileAndRows
+  profile-left p r g = sym (ap (λ (y : ProfileAndRows). orElseProfile y (rightProfile sheet column)) (sym is ∙ g))
+
+  pub profile-right : (y : ProfileAndRows) → x ≡ Absent → y ≡ rightProfile sheet column → y ≡ profileAndRows sheet column
+  unfolding profileAndRows
+  profile-right y g h = h ∙ sym (ap (λ (z : ProfileAndRows). orElseProfile z (rightProfile sheet column)) (sym is ∙ g))

@@ -37,8 +37,14 @@ abbrev pub orElseProfile : ProfileAndRows → ProfileAndRows → ProfileAndRows
 orElseProfile Absent other = other
 orElseProfile (Present p rows) other = Present p rows
 
+-- of the left side, and of the right
+abbrev pub leftProfile : Sheet → ℕ → ProfileAndRows
+leftProfile sheet column = profileIn (sheet .leftRows .value) column (sheet .leftColumns)
+
+abbrev pub rightProfile : Sheet → ℕ → ProfileAndRows
+rightProfile sheet column = profileIn (sheet .rightRows .value) column (sheet .rightColumns)
+
 -- the left side's before the right side's
 unfoldable pub profileAndRows : Sheet → ℕ → ProfileAndRows
 unfolding profileIn
-profileAndRows sheet column =
-    orElseProfile (profileIn (sheet .leftRows .value) column (sheet .leftColumns)) (profileIn (sheet .rightRows .value) column (sheet .rightColumns))
+profileAndRows sheet column = orElseProfile (leftProfile sheet column) (rightProfile sheet column)

@@ -3,7 +3,7 @@ ghost use mathlib.Core.Path.{_≡_};
 ghost use Rattle.records.specs.Columns.{columnProfileAt};
 ghost use Rattle.sheet.specs.Sheet.{sheetOf, recordsIn};
 ghost use Rattle.sheet.specs.declared.order.Kind.the-variants.{Columns};
-ghost use Rattle.lookup.specs.Lookup.{profileIn, orElseProfile, profileAndRows};
+ghost use Rattle.lookup.specs.Lookup.{profileIn, leftProfile, rightProfile, orElseProfile, profileAndRows};
 use le::floats::f64_at;
 use le::reads::u16_at;
 use records::columns::ColumnProfile;
@@ -47,12 +47,24 @@ fn profile_in(s: &[u8], start: u16, rows: f64, column: u16) -> ProfileAndRows
     ProfileAndRows::Absent
 }
 
+pub fn left_profile(s: &[u8], q: Sections, column: u16) -> ProfileAndRows
+    ensures { λ r. ⌜ r ≡ leftProfile (sheetOf (now (s .entry)) q) column ⌝ }
+{
+    profile_in(s, q.left_columns, left_rows(s, q), column)
+}
+
+pub fn right_profile(s: &[u8], q: Sections, column: u16) -> ProfileAndRows
+    ensures { λ r. ⌜ r ≡ rightProfile (sheetOf (now (s .entry)) q) column ⌝ }
+{
+    profile_in(s, q.right_columns, right_rows(s, q), column)
+}
+
 pub fn profile_and_rows(s: &[u8], q: Sections, column: u16) -> ProfileAndRows
     ensures { λ r. ⌜ r ≡ profileAndRows (sheetOf (now (s .entry)) q) column ⌝ }
 {
-    let left = profile_in(s, q.left_columns, left_rows(s, q), column);
+    let left = left_profile(s, q, column);
     match left {
-        ProfileAndRows::Absent => profile_in(s, q.right_columns, right_rows(s, q), column),
+        ProfileAndRows::Absent => right_profile(s, q, column),
         ProfileAndRows::Present { profile, rows } => ProfileAndRows::Present { profile, rows },
     }
 }

@@ -10,7 +10,7 @@ use Rattle.sheet.specs.Check.{check}
 use Rattle.sheet.specs.declared.Sections.{Sections}
 use Rattle.sheet.specs.declared.Checked.{Checked}
 use Rattle.sheet.specs.declared.Checked.the-variants.{Refused, Accepted}
-use Rattle.sheet_cases.specs.Entries.{isPredicate, isSplit}
+use Rattle.sheet_cases.specs.Entries.{isPredicate, isSplit, isJoin}
 use Rattle.sheet_cases.specs.Stores.{storeFits}
 use Rattle.sheet_cases.specs.declared.claims.Verdict.{Verdict}
 
@@ -41,13 +41,6 @@ acceptedAs (Accepted q) c = samePlaces (placesOf q) c 8
 
 unfoldable pub isAccepted : List ℕ → List ℕ → Bool
 isAccepted s c = acceptedAs (check s) c
-
-abbrev pub accepts : Checked → Bool
-accepts (Refused n) = false
-accepts (Accepted q) = true
-
-unfoldable pub isSheet : List ℕ → Bool
-isSheet s = accepts (check s)
 
 -- how many of the prefixes of 0 .. n - 1 bytes are not refused with the number
 unfoldable pub differingBelow : List ℕ → ℕ → ℕ → ℕ
@@ -86,9 +79,8 @@ judgePrefixes s c =
 unfoldable pub answerFits : List ℕ → List ℕ → List ℕ → Bool
 answerFits s a c = leb (u32At c 4) (length s) && leb (u32At c 8 + u32At c 12) (length a)
 
--- as yet a join's answer is not compared: the claim that is judged is that the sheet is accepted
 abbrev pub answerHolds : ℕ → List ℕ → ℕ → List ℕ → ℕ → ℕ → Bool
-answerHolds line s e a at size = cond (eqb line 15) (isPredicate s e a at size) (cond (eqb line 16) (isSplit s e a at size) (isSheet s))
+answerHolds line s e a at size = cond (eqb line 15) (isPredicate s e a at size) (cond (eqb line 16) (isSplit s e a at size) (isJoin s a at size))
 
 -- the expression is u16At c 2; line 14 counts joins, 15 predicates, 16 splits
 unfoldable pub judgeAnswer : ℕ → List ℕ → List ℕ → List ℕ → Verdict

@@ -8,6 +8,7 @@ use Rattle.le.specs.Fields.{byteAt}
 use Rattle.estimates.specs.Answers.{Result, answered, leaves}
 use Rattle.estimates.specs.Predicate.{predicateResult}
 use Rattle.estimates.specs.Split.{splitResult}
+use Rattle.estimates.specs.Join.{joinResult}
 use Rattle.estimates.specs.declared.answer.Answer.{Answer}
 use Rattle.estimates.specs.declared.answer.Answer.the-variants.{Refused, Written}
 
@@ -33,3 +34,8 @@ isPredicate s e a at size = isResult (predicateResult s e) (replicate 26 0) a at
 unfoldable pub isSplit : List ℕ → ℕ → List ℕ → ℕ → ℕ → Bool
 unfolding sameBytes
 isSplit s e a at size = isResult (splitResult s e) (replicate 1026 0) a at size
+
+-- 64 classes with 128 columns between them, 64 coverages and 128 non-null columns are the most that an answer holds
+unfoldable pub isJoin : List ℕ → List ℕ → ℕ → ℕ → Bool
+unfolding sameBytes
+isJoin s a at size = isResult (joinResult s) (replicate 5124 0) a at size

@@ -2,8 +2,9 @@
 ghost use mathlib.Core.Path.{_≡_};
 ghost use Prim.Native.Nat.{_+_, _≤_, _<_, _^_};
 ghost use lib.ListN.{length};
-ghost use Rattle.sheet_cases.specs.Claims.{isRefused, placesOf, samePlaces, isAccepted, isSheet, differingBelow, unknown, oneCase, judgeStore, judgeRefused, judgeAccepted, judgePrefixes, answerFits, answerHolds, judgeAnswer, judge};
+ghost use Rattle.sheet_cases.specs.Claims.{isRefused, placesOf, samePlaces, isAccepted, differingBelow, unknown, oneCase, judgeStore, judgeRefused, judgeAccepted, judgePrefixes, answerFits, answerHolds, judgeAnswer, judge};
 ghost use Rattle.float.specs.Integers.{bit};
+use crate::entries::is_join;
 use crate::entries::is_predicate;
 use crate::entries::is_split;
 use crate::stores::store_fits;
@@ -80,17 +81,6 @@ fn is_accepted(s: &[u8], c: &[u8]) -> bool
     match answer {
         Checked::Refused(_) => false,
         Checked::Accepted(q) => same_places(places_of(q), c),
-    }
-}
-
-// Whether the sheet is accepted.
-fn is_sheet(s: &[u8]) -> bool
-    ensures { λ r. ⌜ r ≡ isSheet (now (s .entry)) ⌝ }
-{
-    let answer = sheet::check(s);
-    match answer {
-        Checked::Refused(_) => false,
-        Checked::Accepted(_) => true,
     }
 }
 
@@ -187,7 +177,7 @@ fn answer_fits(s: &[u8], a: &[u8], c: &[u8]) -> bool
     both(n <= s.len(), at + size <= a.len())
 }
 
-// Whether an answer holds. As yet a join's is not compared: that the sheet is accepted is judged.
+// Whether an answer holds. A join names no expression.
 fn answer_holds(line: u8, s: &[u8], e: u16, a: &[u8], at: usize, size: usize) -> bool
     requires { ⌜ at + size < 2 ^ 40 ⌝ }
     ensures { λ r. ⌜ r ≡ answerHolds line (now (s .entry)) e (now (a .entry)) at size ⌝ }
@@ -195,7 +185,7 @@ fn answer_holds(line: u8, s: &[u8], e: u16, a: &[u8], at: usize, size: usize) ->
     match line {
         15 => is_predicate(s, e, a, at, size),
         16 => is_split(s, e, a, at, size),
-        _ => is_sheet(s),
+        _ => is_join(s, a, at, size),
     }
 }
 

@@ -1,7 +1,7 @@
 // Whether an entry gives the answer that the list has for it.
 ghost use mathlib.Core.Path.{_≡_};
 ghost use Prim.Native.Nat.{_+_, _<_, _^_};
-ghost use Rattle.sheet_cases.specs.Entries.{sameBytes, isAnswer, isPredicate, isSplit};
+ghost use Rattle.sheet_cases.specs.Entries.{sameBytes, isAnswer, isPredicate, isSplit, isJoin};
 use estimates::answer::Answer;
 use le::reads::byte_at;
 
@@ -45,5 +45,14 @@ pub fn is_split(s: &[u8], e: u16, a: &[u8], at: usize, size: usize) -> bool
 {
     let mut out = [0u8; 1026];
     let answer = estimates::split(s, e, &mut out);
+    is_answer(answer, &out, a, at, size)
+}
+
+pub fn is_join(s: &[u8], a: &[u8], at: usize, size: usize) -> bool
+    requires { ⌜ at + size < 2 ^ 40 ⌝ }
+    ensures { λ r. ⌜ r ≡ isJoin (now (s .entry)) (now (a .entry)) at size ⌝ }
+{
+    let mut out = [0u8; 5124];
+    let answer = estimates::join(s, &mut out);
     is_answer(answer, &out, a, at, size)
 }

@@ -1,6 +1,5 @@
 // Replays a stored list of sheets, which standard input holds, against `sheet::check` and the entries
-// of `estimates`, and writes how many cases there were of each kind and how many differ. Of the joins
-// that the list has answers for, only that their sheet is accepted is judged.
+// of `estimates`, and writes how many cases there were of each kind and how many differ.
 // `rust/list` makes the list, and `tests/make_sheet_cases.py` describes its commands of 32 bytes.
 mod claims;
 mod entries;
@@ -63,7 +62,7 @@ fn write_tallies(cases: &[u64], differ: &[u64]) {
     write_line(b"accepted: ", cases, differ, 11);
     write_line(b"prefixes: ", cases, differ, 12);
     write_line(b"stores: ", cases, differ, 13);
-    write_line(b"joins, answers not compared yet: ", cases, differ, 14);
+    write_line(b"joins: ", cases, differ, 14);
     write_line(b"predicates: ", cases, differ, 15);
     write_line(b"splits: ", cases, differ, 16);
     write_line(b"unknown: ", cases, differ, 0);

@@ -15,7 +15,9 @@ use Rattle.lookup.proofs.LookupLaws.{operands-from}
 use Rattle.lookup.proofs.RecursionLaws.{below-is, below-not}
 use Rattle.le.specs.Fields.{fieldBytes, u16Bytes, onto}
 use Rattle.le.proofs.OntoLaws.{onto-part, onto-length}
-use Rattle.split.specs.Conjuncts.{andRun, flattened, runConjuncts, conjunctsBy, itself, conjuncts, numbersBytes}
+use Rattle.number_bytes.specs.Numbers.{numbersBytes}
+use Rattle.number_bytes.proofs.NumberLaws.{numbers-length, numbers-append}
+use Rattle.split.specs.Conjuncts.{andRun, flattened, runConjuncts, conjunctsBy, itself, conjuncts}
 use Rattle.split.specs.declared.run.AndRun.{AndRun}
 use Rattle.split.specs.declared.run.AndRun.the-variants.{Absent, Present}
 
@@ -92,19 +94,6 @@ module _ (s : List ℕ) (q : Sections) (first count : ℕ) (conjunctsOf : ℕ �
       plain sum k = omega arith
 
 -- ---- written
-
-pub numbers-length : (l : List ℕ) → length (numbersBytes l) ≡ 2 * length l
-unfolding numbersBytes fieldBytes
-numbers-length [] = refl
-numbers-length (e ∷ es) = two (length (numbersBytes es)) (length es) (numbers-length es)
-  where
-    two : (m n : ℕ) → m ≡ 2 * n → suc (suc m) ≡ 2 * suc n
-    two m n h = omega arith
-
-pub numbers-append : (a b : List ℕ) → numbersBytes (a ++ b) ≡ numbersBytes a ++ numbersBytes b
-unfolding numbersBytes fieldBytes
-numbers-append [] b = refl
-numbers-append (e ∷ es) b = ap (λ (l : List ℕ). u16Bytes e ++ l) (numbers-append es b)
 
 -- what a loop that stands at the i-th operand has written into a slice that held out₀
 pub record Written (s : List ℕ) (q : Sections) (first count : ℕ) (conjunctsOf : ℕ → List ℕ) (out₀ out : List ℕ) (at i end : ℕ) : Type 0 where

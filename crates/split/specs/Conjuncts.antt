@@ -1,7 +1,6 @@
 -- `conjuncts` of the source's analysis.rs: an And taken apart to any depth. Definitions only.
 use Prim.Native.Nat.{ℕ}
 use mathlib.Core.List.{List, [], _∷_, _++_}
-use Rattle.le.specs.Fields.{fieldBytes, u16Bytes}
 use Rattle.records.specs.declared.expressions.NaryOp.the-variants.{And, Or}
 use Rattle.records.specs.declared.expressions.Expression.{Expression}
 use Rattle.records.specs.declared.expressions.Expression.the-variants.{Literal, ColumnRef, Unary, Binary, Nary, Like, Other}
@@ -43,10 +42,3 @@ itself o = o ∷ []
 unfoldable pub conjuncts : Sheet → ℕ → List ℕ
 unfolding byNumber conjunctsBy
 conjuncts sheet e = byNumber (conjunctsBy sheet) itself e
-
--- ---- written, two bytes each
-
-unfoldable pub numbersBytes : List ℕ → List ℕ
-unfolding fieldBytes
-numbersBytes [] = []
-numbersBytes (e ∷ es) = u16Bytes e ++ numbersBytes es

@@ -1,28 +1,20 @@
 // The conjuncts of an expression, written to the front of a slice.
 ghost use mathlib.Core.Path.{_≡_};
 ghost use Prim.Native.Nat.{_*_, _≤_};
-ghost use mathlib.Core.List.{[], _∷_};
 ghost use lib.ListN.{length};
 ghost use Rattle.le.specs.Fields.{onto};
 ghost use Rattle.lookup.specs.Lookup.{operandsOf};
 ghost use Rattle.lookup.specs.Recursion.{below};
 ghost use Rattle.sheet.specs.Sheet.{sheetOf};
-ghost use Rattle.split.specs.Conjuncts.{flattened, conjunctsBy, itself, conjuncts, numbersBytes};
+ghost use Rattle.number_bytes.specs.Numbers.{numbersBytes};
+ghost use Rattle.split.specs.Conjuncts.{flattened, conjunctsBy, itself, conjuncts};
 use crate::run::AndRun;
 use crate::run::and_run;
-use le::writes::put_u16;
 use lookup::numbers::expression_of;
 use lookup::numbers::operand_in;
 use lookup::numbers::run_end;
+use number_bytes::put_number;
 use sheet::Sections;
-
-fn put_number(out: &mut [u8], e: u16) -> usize
-    requires { ⌜ 2 ≤ length (now out) ⌝ }
-    ensures { λ r. ⌜ (r ≡ 2) × (now (out .exit) ≡ onto (numbersBytes (e ∷ [])) (now (out .entry))) ⌝ }
-{
-    put_u16(out, e);
-    2
-}
 
 pub fn put_conjuncts(s: &[u8], q: Sections, e: u16, out: &mut [u8]) -> usize
     requires { ⌜ 2 * length (conjuncts (sheetOf (now s) q) e) ≤ length (now out) ⌝ }

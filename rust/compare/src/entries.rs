@@ -1,16 +1,23 @@
-//! The library's entries on every expression of a sheet, and on one that is not there.
+//! The library's entries: the join, and the others on every expression of a sheet and on one that is
+//! not there.
 
 use crate::library;
 use crate::outputs::{agree, refused};
 use crate::report::Report;
-use oracle::answer::{Answers, predicate_bytes, split_bytes};
+use oracle::answer::{Answers, Join, predicate_bytes, split_bytes};
 
 /// An entry answers a refusal's number above this.
 const REFUSED: u64 = 1 << 32;
 const NO_EXPRESSION: u64 = REFUSED + 11;
 const NO_ROOM: u64 = REFUSED + 12;
 
-/// The entries' bytes against the source's answers, and 11 for the numbers behind the last.
+/// The join's bytes against those of the source with document 01's power.
+pub fn compare_join(bytes: &[u8], join: &Join, report: &mut Report) {
+    let agrees = agree(&join.bytes(), NO_ROOM, |out| library::join(bytes, out));
+    report.compared("a join", agrees);
+}
+
+/// The other entries' bytes against the source's answers, and 11 for the numbers behind the last.
 pub fn compare(bytes: &[u8], answers: &Answers, report: &mut Report) {
     let count = answers.predicates.len() as u16;
     for (number, (predicate, split)) in answers.predicates.iter().zip(&answers.splits).enumerate() {
@@ -32,9 +39,11 @@ pub fn compare(bytes: &[u8], answers: &Answers, report: &mut Report) {
     }
 }
 
-/// A refused sheet gets its number from both entries, whichever expression is named.
+/// A refused sheet gets its number from all entries, whichever expression is named.
 pub fn compare_refused(bytes: &[u8], number: u8, report: &mut Report) {
     let due = REFUSED + u64::from(number);
+    let join = refused(due, |out| library::join(bytes, out));
+    report.compared("a join of a refused copy", join);
     for expression in [0, u16::MAX] {
         let predicate = refused(due, |out| library::predicate(bytes, expression, out));
         report.compared("a predicate of a refused copy", predicate);

@@ -51,6 +51,12 @@ mod c {
             out: *mut u8,
             out_length: usize,
         ) -> u64;
+        pub fn estimates_join(
+            sheet: *const u8,
+            length: usize,
+            out: *mut u8,
+            out_length: usize,
+        ) -> u64;
         pub fn estimates_predicate(
             sheet: *const u8,
             length: usize,
@@ -139,6 +145,11 @@ pub fn min_by_value(left: &[u8], right: &[u8], out: &mut [u8]) -> u64 {
 /// The bytes written, 0 where `out` has no room.
 pub fn derived(value: &[u8], out: &mut [u8]) -> u64 {
     unsafe { c::pieces_derived(value.as_ptr(), value.len(), out.as_mut_ptr(), out.len()) }
+}
+
+/// The bytes written, or 2^32 plus the refusal's number.
+pub fn join(sheet: &[u8], out: &mut [u8]) -> u64 {
+    unsafe { c::estimates_join(sheet.as_ptr(), sheet.len(), out.as_mut_ptr(), out.len()) }
 }
 
 fn entered(entry: c::Entry, sheet: &[u8], expression: u16, out: &mut [u8]) -> u64 {

@@ -72,6 +72,7 @@ fn compare_answers(sheet: &Sheet, bytes: &[u8], report: &mut Report) {
     pieces::compare_powers(&taken, report);
     observe(&rule, report);
     observe(&source, report);
+    entries::compare_join(bytes, &rule.join, report);
     entries::compare(bytes, &source, report);
     let mut match_aside = rule;
     match_aside.join.matching = source.join.matching;

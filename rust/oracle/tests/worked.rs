@@ -3,55 +3,10 @@
 
 use oracle::answer::{Answers, predicate_bytes, split_bytes};
 use sheet::reader::read;
-use sheet::samples::{self, empty, from_catalog};
-use sheet::values::{Class, Column, Expression, Scalar, Sheet};
+use sheet::samples::{empty, from_catalog};
+use sheet::values::{Class, Sheet};
+use sheet::worked;
 use sheet::writer::write;
-
-const EQ: u8 = 0;
-const IS_NOT_DISTINCT_FROM: u8 = 1;
-const AND: u8 = 0;
-const OR: u8 = 1;
-
-/// A column's profile with nothing but its frequency and distinct.
-fn column(number: u16, frequency: f64, distinct: f64) -> Column {
-    Column {
-        frequency: from_catalog(frequency),
-        distinct: from_catalog(distinct),
-        ..samples::column(number)
-    }
-}
-
-/// Columns 1 to 3 are expressions 0 to 2, and the conjuncts stand behind them.
-fn with_conjuncts(left: Column, right: Column, conjuncts: &[Expression]) -> Sheet {
-    let mut expressions = vec![
-        Expression::Column(1),
-        Expression::Column(2),
-        Expression::Column(3),
-    ];
-    expressions.extend(conjuncts);
-    Sheet {
-        columns: [vec![left], vec![right]],
-        conjuncts: (3..expressions.len() as u16).collect(),
-        expressions,
-        ..empty()
-    }
-}
-
-fn first() -> Column {
-    column(1, 100.0, 10.0)
-}
-
-fn second() -> Column {
-    column(2, 50.0, 25.0)
-}
-
-fn equality(op: u8, left: u16, right: u16) -> Expression {
-    Expression::Binary {
-        op,
-        left: left - 1,
-        right: right - 1,
-    }
-}
 
 /// The answers with both powers. Whatever a case says holds of each.
 fn both(sheet: &Sheet) -> [Answers; 2] {
@@ -64,7 +19,7 @@ fn both(sheet: &Sheet) -> [Answers; 2] {
 
 #[test]
 fn an_equality() {
-    for answers in both(&with_conjuncts(first(), second(), &[equality(EQ, 1, 2)])) {
+    for answers in both(&worked::an_equality()) {
         assert_eq!(answers.join.selectivity.value, 0.04);
         assert_eq!(answers.join.matching.value, 1.0);
         let block = Class {
@@ -77,8 +32,7 @@ fn an_equality() {
 
 #[test]
 fn a_residual() {
-    let conjuncts = [equality(EQ, 1, 2), Expression::Other];
-    for answers in both(&with_conjuncts(first(), second(), &conjuncts)) {
+    for answers in both(&worked::a_residual()) {
         assert_eq!(answers.join.matching.value, 0.4375);
         assert_eq!(answers.join.residual, 0.25);
     }
@@ -88,33 +42,15 @@ fn a_residual() {
 
 #[test]
 fn a_null_safe_equality() {
-    let sheet = with_conjuncts(
-        column(1, 75.0, 8.0),
-        column(2, 25.0, 4.0),
-        &[equality(IS_NOT_DISTINCT_FROM, 1, 2)],
-    );
-    for answers in both(&sheet) {
+    for answers in both(&worked::a_null_safe_equality()) {
         assert_eq!(answers.join.selectivity.value, 0.171875);
         assert_eq!(answers.join.matching.value, 0.625);
     }
 }
 
-fn bounded(of: Column, lower: i32, upper: i32) -> Column {
-    Column {
-        lower: Some(Scalar::Int32(lower)),
-        upper: Some(Scalar::Int32(upper)),
-        ..of
-    }
-}
-
 #[test]
 fn disjoint_bounds() {
-    let sheet = with_conjuncts(
-        bounded(first(), 0, 9),
-        bounded(second(), 10, 19),
-        &[equality(EQ, 1, 2)],
-    );
-    for answers in both(&sheet) {
+    for answers in both(&worked::disjoint_bounds()) {
         assert_eq!(answers.join.selectivity.value, 0.0);
         assert_eq!(answers.join.matching.value, 0.0);
         assert_eq!(answers.join.classes.len(), 1);
@@ -123,23 +59,17 @@ fn disjoint_bounds() {
 
 #[test]
 fn touching_bounds() {
-    let sheet = with_conjuncts(
-        bounded(column(1, 100.0, 4.0), 0, 9),
-        bounded(column(2, 50.0, 4.0), 9, 19),
-        &[equality(EQ, 1, 2)],
-    );
-    for answers in both(&sheet) {
+    for answers in both(&worked::touching_bounds()) {
         assert_eq!(answers.join.coverages[0].figures[2], 1.0);
     }
 }
 
 #[test]
 fn non_null_columns() {
-    let conjuncts = [equality(EQ, 1, 2), equality(IS_NOT_DISTINCT_FROM, 2, 3)];
-    for answers in both(&with_conjuncts(first(), second(), &conjuncts)) {
+    for answers in both(&worked::a_chain()) {
         assert_eq!(answers.join.non_null, [1, 2, 3]);
     }
-    for answers in both(&with_conjuncts(first(), second(), &[equality(EQ, 1, 1)])) {
+    for answers in both(&worked::a_self_equality()) {
         assert_eq!(answers.join.non_null, [1]);
         assert!(answers.join.classes.is_empty());
         assert_eq!(answers.join.selectivity.value, 1.0);
@@ -148,8 +78,7 @@ fn non_null_columns() {
 
 #[test]
 fn predicates() {
-    let ops = [equality(EQ, 1, 1), equality(IS_NOT_DISTINCT_FROM, 1, 1)];
-    for answers in both(&with_conjuncts(column(1, 75.0, 10.0), second(), &ops)) {
+    for answers in both(&worked::itself()) {
         assert_eq!(answers.predicates[3].value, 0.75);
         assert_eq!(answers.predicates[4].value, 1.0);
         assert_eq!(predicate_bytes(&answers.predicates[3]).len(), 26);
@@ -158,40 +87,7 @@ fn predicates() {
 
 #[test]
 fn ands_and_ors() {
-    let sheet = Sheet {
-        expressions: vec![
-            Expression::Other,
-            Expression::Other,
-            Expression::Nary {
-                op: OR,
-                first: 0,
-                count: 2,
-            },
-            Expression::Nary {
-                op: AND,
-                first: 2,
-                count: 0,
-            },
-            Expression::Nary {
-                op: OR,
-                first: 2,
-                count: 0,
-            },
-            Expression::Nary {
-                op: AND,
-                first: 2,
-                count: 2,
-            },
-            Expression::Nary {
-                op: AND,
-                first: 4,
-                count: 3,
-            },
-        ],
-        operands: vec![0, 1, 0, 2, 5, 3, 1],
-        ..empty()
-    };
-    for answers in both(&sheet) {
+    for answers in both(&worked::ands_and_ors()) {
         assert_eq!(answers.predicates[2].value, 0.4375);
         assert_eq!(answers.predicates[3].value, 1.0);
         assert_eq!(answers.predicates[4].value, 0.0);
@@ -216,19 +112,12 @@ fn the_empty_case_in_bytes() {
 
 #[test]
 fn limits() {
-    let mut sheet = with_conjuncts(first(), second(), &[equality(EQ, 1, 2)]);
-    sheet.conjuncts = vec![3; 64];
-    for answers in both(&sheet) {
+    for answers in both(&worked::most_conjuncts()) {
         assert_eq!(answers.join.selectivity.value, 0.04);
     }
-    sheet.conjuncts.push(3);
-    assert_eq!(read(&write(&sheet)).map(|_| ()).unwrap_err().number, 3);
-    sheet.conjuncts.clear();
-    sheet.classes[0].push(Class {
-        distinct: from_catalog(1.0),
-        columns: vec![1],
-    });
-    assert_eq!(read(&write(&sheet)).map(|_| ()).unwrap_err().number, 3);
+    for sheet in worked::refused() {
+        assert_eq!(read(&write(&sheet)).map(|_| ()).unwrap_err().number, 3);
+    }
 }
 
 #[test]

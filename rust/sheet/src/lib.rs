@@ -7,4 +7,5 @@ pub mod random;
 pub mod reader;
 pub mod samples;
 pub mod values;
+pub mod worked;
 pub mod writer;

@@ -6,6 +6,7 @@ use oracle::answer::{Answers, predicate_bytes, split_bytes};
 use oracle::copies::{BLOCKS, SLIPS};
 use sheet::reader::{Read, read};
 use sheet::values::Sheet;
+use sheet::worked;
 use std::io::{self, Read as _, Write};
 use std::process::ExitCode;
 
@@ -180,9 +181,10 @@ fn chosen() -> Vec<u64> {
 }
 
 fn list_accepted(list: &mut List) {
-    for seed in chosen() {
-        let bytes = sheet::writer::write(&sheet::generator::sheet(seed));
-        let read = read(&bytes).unwrap_or_else(|refusal| panic!("seed {seed}: {refusal:?}"));
+    let drawn = chosen().into_iter().map(sheet::generator::sheet);
+    for sheet in worked::accepted().into_iter().chain(drawn) {
+        let bytes = sheet::writer::write(&sheet);
+        let read = read(&bytes).unwrap_or_else(|refusal| panic!("{sheet:?}: {refusal:?}"));
         list.accepted(&bytes, &read);
         list.answers(
             bytes.len(),
@@ -201,6 +203,9 @@ fn wanted(number: u8, bytes: &[u8], times: usize) -> bool {
 }
 
 fn list_refused(list: &mut List) {
+    for sheet in worked::refused() {
+        list.refused(&sheet::writer::write(&sheet), 3);
+    }
     let mut times = [0; 11];
     for seed in 0..SEEDS {
         let bytes = sheet::damage::damaged(seed, &sheet::generator::sheet(seed));
@@ -231,7 +236,7 @@ fn lines(commands: &[[u8; 32]]) -> Vec<String> {
         ("accepted", of_kind(ACCEPTED_SHEET)),
         ("prefixes", prefixes),
         ("stores", of_kind(STORE_SHEET) + of_kind(STORE_ANSWER)),
-        ("joins, answers not compared yet", of_kind(JOIN)),
+        ("joins", of_kind(JOIN)),
         ("predicates", of_kind(PREDICATE)),
         ("splits", of_kind(SPLIT)),
         (

@@ -10,8 +10,8 @@ is-predicate-requires c κs = search needs
 is-split-requires : tie.Need-is-split-requires
 is-split-requires c κs = search needs
 
-is-sheet-requires : tie.Need-is-sheet-requires
-is-sheet-requires c κs = search needs
+is-join-requires : tie.Need-is-join-requires
+is-join-requires c κs = search needs
 
 returns : tie.Need-returns
 returns c = rw (c .before .match .keys1) (c .is-predicate .ensures)
@@ -20,7 +20,7 @@ returns-2 : tie.Need-returns-2
 returns-2 c = rw (c .before .match .keys2) (c .is-split .ensures)
 
 returns-3 : tie.Need-returns-3
-returns-3 c = let rest = c .before .match .rest in rw (ne-eqb _ 15 (rest .0 .1), ne-eqb _ 16 (rest .1)) (c .is-sheet .ensures)
+returns-3 c = let rest = c .before .match .rest in rw (ne-eqb _ 15 (rest .0 .1), ne-eqb _ 16 (rest .1)) (c .is-join .ensures)
 
 pub answer-holds-spec : {M : Type 1} → statement M
 answer-holds-spec =
@@ -28,7 +28,7 @@ answer-holds-spec =
     (tie.spec
     is-predicate-requires
     is-split-requires
-    is-sheet-requires
+    is-join-requires
     returns
     returns-2
     returns-3)

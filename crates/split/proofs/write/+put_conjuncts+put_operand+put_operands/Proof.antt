@@ -8,7 +8,8 @@ use borrow.Fn.Kinds.{In}
 use borrow.Fn.PlainCycle.{Measures, is, falls, and}
 use lib.ListN.{length}
 use Rattle.split.proofs.ConjunctLaws.{alone, apart, operand-below, operand-not-below, Written, written-first, written-within, written-room, written-part, written-next, written-length, written-all}
-use Rattle.split.specs.Conjuncts.{conjunctsBy, itself, numbersBytes}
+use Rattle.number_bytes.specs.Numbers.{numbersBytes}
+use Rattle.split.specs.Conjuncts.{conjunctsBy, itself}
 use Rattle.lookup.specs.Recursion.{below}
 use Rattle.sheet.specs.Sheet.{sheetOf}
 use Rattle.le.specs.Fields.{onto}
@@ -25,7 +26,7 @@ use Rattle.lookup.proofs.numbers.expression_of.Reads as expression-of-reads
 use Rattle.lookup.proofs.numbers.operand_in.Reads as operand-in-reads
 use Rattle.lookup.proofs.numbers.run_end.Reads as run-end-reads
 use Rattle.split.proofs.run.and_run.Reads as and-run-reads
-use Rattle.split.proofs.write.put_number.Reads as put-number-reads
+use Rattle.number_bytes.proofs.put_number.Reads as put-number-reads
 use Rattle.split.proofs.write.+put_conjuncts+put_operand+put_operands.{statement}
 use Rattle.split.proofs.write.+put_conjuncts+put_operand+put_operands.Tie.{close}
 

@@ -1,0 +1,10 @@
+pub mod DistinctLaws
+pub mod MappedLaws
+pub mod UnionLaws
+pub mod ApartLaws
+pub mod ClassLaws
+pub mod ProfileLaws
+pub mod SizeLaws
+pub mod CountLaws
+pub mod FilledLaws
+pub mod ReturnedLaws

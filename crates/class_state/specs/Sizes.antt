@@ -1,0 +1,30 @@
+-- How many bytes the returned classes take. Definitions only.
+use Prim.Native.Nat.{ℕ, _+_, _*_}
+use mathlib.Core.Bool.{cond}
+use mathlib.Core.List.{List, [], _∷_}
+use lib.Dec.{leb}
+use lib.ListN.{length}
+use Rattle.class_state.specs.State.{members, returnedRoots}
+
+-- how many columns have a root
+abbrev pub memberCount : List ℕ → ℕ → ℕ
+memberCount roots root = length (members roots root)
+
+-- of a class: a count, an estimate, two bytes for each of n columns
+abbrev pub classSize : ℕ → ℕ
+classSize n = 28 + 2 * n
+
+-- of a class that is returned only if it has two columns or more
+abbrev pub returnedSize : ℕ → ℕ
+returnedSize n = cond (leb 2 n) (classSize n) 0
+
+abbrev pub sizeAtRoot : List ℕ → ℕ → ℕ
+sizeAtRoot roots root = classSize (memberCount roots root)
+
+unfoldable pub sumOver : (ℕ → ℕ) → List ℕ → ℕ
+sumOver f [] = 0
+sumOver f (x ∷ l) = f x + sumOver f l
+
+unfoldable pub classesSize : List ℕ → ℕ
+unfolding members returnedRoots sumOver
+classesSize roots = sumOver (sizeAtRoot roots) (returnedRoots roots)

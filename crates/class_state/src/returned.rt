@@ -1,0 +1,119 @@
+// What is returned: the classes of two columns or more, ascending by the column at their root.
+ghost use mathlib.Core.Path.{_≡_};
+ghost use mathlib.Core.Bool.{cond};
+ghost use mathlib.Core.List.{[]};
+ghost use Prim.Native.Nat.{_≤_};
+ghost use lib.ListN.{length};
+ghost use Rattle.le.specs.Fields.{onto};
+ghost use Rattle.sheet.specs.Sheet.{sheetOf};
+ghost use Rattle.class_state.specs.State.{isReturned, returnedRoots, classAtRoot, intoClasses};
+ghost use Rattle.class_state.specs.Places.{stateOf};
+ghost use Rattle.class_state.specs.Bytes.{classBytes, classesBytes};
+ghost use Rattle.class_state.specs.Sizes.{memberCount, returnedSize, sizeAtRoot, classesSize};
+use crate::distincts::distinct_at;
+use crate::members::member_counts;
+use crate::members::put_members;
+use crate::slots::place_of;
+use estimate::bytes::put_estimate;
+use float::integers::one_if;
+use le::writes::put_u16;
+use sheet::Sections;
+
+pub fn class_count(roots: &[u8]) -> usize
+    ensures { λ r. ⌜ r ≡ length (returnedRoots (now (roots .entry))) ⌝ }
+{
+    let counts = member_counts(roots);
+    let mut n: usize = 0;
+    let mut root: usize = 0;
+    while root < 128 {
+        n += one_if(counts[root] >= 2) as usize;
+        root += 1;
+    }
+    n
+}
+
+// The bytes of a class of so many columns, none if it is not returned.
+fn returned_size(count: u8) -> usize
+    ensures { λ r. ⌜ r ≡ returnedSize count ⌝ }
+{
+    if count >= 2 {
+        return 28 + 2 * count as usize;
+    }
+    0
+}
+
+pub fn classes_size(roots: &[u8]) -> usize
+    ensures { λ r. ⌜ r ≡ classesSize (now (roots .entry)) ⌝ }
+{
+    let counts = member_counts(roots);
+    let mut size: usize = 0;
+    let mut root: usize = 0;
+    while root < 128 {
+        size += returned_size(counts[root]);
+        root += 1;
+    }
+    size
+}
+
+// The class at a root that has so many members.
+fn put_class(
+    s: &[u8],
+    q: Sections,
+    roots: &[u8],
+    places: &[usize],
+    root: u8,
+    count: u8,
+    out: &mut [u8],
+) -> usize
+    requires { ⌜ (count ≡ memberCount (now roots) root) × (sizeAtRoot (now roots) root ≤ length (now out)) ⌝ }
+    ensures { λ r. ⌜ r ≡ sizeAtRoot (now (roots .entry)) root ⌝ }
+    ensures { λ _. ⌜ now (out .exit) ≡ onto (classBytes (classAtRoot (sheetOf (now (s .entry)) q) (stateOf (now (s .entry)) q (now (roots .entry)) (now (places .entry))) root)) (now (out .entry)) ⌝ }
+{
+    put_u16(out, count as u16);
+    let distinct = distinct_at(s, q, place_of(places, root));
+    put_estimate(&mut out[2..], distinct);
+    28 + put_members(roots, root, &mut out[28..])
+}
+
+// The same, if it is returned.
+fn put_returned(
+    s: &[u8],
+    q: Sections,
+    roots: &[u8],
+    places: &[usize],
+    root: u8,
+    count: u8,
+    out: &mut [u8],
+) -> usize
+    requires { ⌜ (count ≡ memberCount (now roots) root) × (returnedSize (memberCount (now roots) root) ≤ length (now out)) ⌝ }
+    ensures { λ r. ⌜ r ≡ returnedSize (memberCount (now (roots .entry)) root) ⌝ }
+    ensures { λ _. ⌜ now (out .exit) ≡ onto (cond (isReturned (now (roots .entry)) root) (classBytes (classAtRoot (sheetOf (now (s .entry)) q) (stateOf (now (s .entry)) q (now (roots .entry)) (now (places .entry))) root)) []) (now (out .entry)) ⌝ }
+{
+    if count >= 2 {
+        return put_class(s, q, roots, places, root, count, out);
+    }
+    0
+}
+
+pub fn put_classes(s: &[u8], q: Sections, roots: &[u8], places: &[usize], out: &mut [u8]) -> usize
+    requires { ⌜ classesSize (now roots) ≤ length (now out) ⌝ }
+    ensures { λ r. ⌜ r ≡ classesSize (now (roots .entry)) ⌝ }
+    ensures { λ _. ⌜ now (out .exit) ≡ onto (classesBytes (intoClasses (sheetOf (now (s .entry)) q) (stateOf (now (s .entry)) q (now (roots .entry)) (now (places .entry))))) (now (out .entry)) ⌝ }
+{
+    let counts = member_counts(roots);
+    let mut at: usize = 0;
+    let mut root: u8 = 0;
+    while root < 128 {
+        at += put_returned(
+            s,
+            q,
+            roots,
+            places,
+            root,
+            counts[root as usize],
+            &mut out[at..],
+        );
+        root += 1;
+    }
+    at
+}

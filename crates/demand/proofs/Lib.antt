@@ -1,0 +1,10 @@
+pub mod Kept
+pub mod ChainLaws
+pub mod KeptLaws
+pub mod RootLaws
+pub mod LinkLaws
+pub mod WalkLaws
+pub mod TwoJoinLaws
+pub mod ReadLaws
+pub mod AnswerLaws
+pub mod Demand3

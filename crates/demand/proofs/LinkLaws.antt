@@ -1,0 +1,197 @@
+-- The roots of a whole join, all below 128, agree exactly where a chain of the sheet's facts links; and a join has no more coverages than pairs. Assumes nothing.
+use Prim.Native.Nat.{ℕ, _+_, _≤_, _<_}
+use mathlib.Core.Path.{_≡_, refl, sym, subst, _∙_, ap}
+use mathlib.Core.Logic.{_↔_, _≢_, ⊎-elim}
+use mathlib.Core.Bool.{Bool, true, false, cond}
+use mathlib.Core.List.{List, [], _∷_, _++_, map, List·Memᴰ·head, List·Memᴰ·tail, List·Memᴰ·cases-cons, List·Memᴰ·eq-of-singleton, List·Memᴰ·append-cases, Memᴰ·append-left, Memᴰ·append-right, Memᴰ·map, Memᴰ·of-map}
+use native.Mathlib.Omega.{arith}
+use lib.ListN.{length, length-append, length-map}
+use Rattle.records.proofs.ListLaws.{tabulate-length, tabulate-at}
+use Rattle.sheet.specs.Sheet.{Sheet}
+use Rattle.class_state.specs.State.{ClassState, find, equivalent, itself, apart, withClasses, fromProfiles}
+use Rattle.equality_pairs.specs.Pairs.{EqualityPair, equalityPairs}
+use Rattle.equality_pairs.specs.NonNull.{nonNullMarks}
+use Rattle.edge_order.proofs.SortLaws.{sort-in, in-sort, sort-length}
+use Rattle.edge.specs.declared.LeftCoverage.{LeftCoverage}
+use Rattle.edge.specs.declared.LeftCoverage.the-variants.{Absent, Present}
+use Rattle.join.specs.Sides.{connectsInputs}
+use Rattle.join.specs.Edges.{EqualityEdge, edgeBetween, edgeOf, edgeBefore, equalityEdges}
+use Rattle.join.specs.Fold.{Folded, noEquality, coverageOf, coverageUnless, edgeEstimate, edgeCoverages, withEdge, withEdges}
+use Rattle.join.specs.Join.{foldedPairs}
+use Rattle.demand.specs.Claim.{_∈_, Columns, Equates, Fact, of-left, of-right, of-conjunct, Linked, no-step, step}
+use Rattle.demand.proofs.Kept.{Kept}
+use Rattle.demand.proofs.KeptLaws.{pairs-law}
+use Rattle.demand.proofs.ChainLaws.{one-step, turned}
+use Rattle.demand.proofs.RootLaws.{rootOf, Sound, Two, joinedAll, Agree, Joins, joined-append, joined-all, allPairs, classes-roots, ends, edges-roots, class-agrees, all-pair, pair-all, along}
+
+-- ---- columns are below 128
+
+of-two : (P : ℕ → Type 0) (first second : ℕ) → P first → P second → (a : ℕ) → a ∈ first ∷ second ∷ [] → P a
+of-two P first second p q a m =
+    ⊎-elim (λ (e : a ≡ first). subst P (sym e) p)
+    (λ (n : a ∈ second ∷ []). subst P (sym (List·Memᴰ·eq-of-singleton n)) q)
+    (List·Memᴰ·cases-cons m)
+
+fact-below : (sheet : Sheet) → Kept sheet → (f : Columns) (a : ℕ) → Fact sheet f → a ∈ f → a < 128
+fact-below sheet kept f a (of-left class n e) m = kept .left class a n (subst (λ (l : Columns). a ∈ l) (sym e) m)
+fact-below sheet kept f a (of-right class n e) m = kept .right class a n (subst (λ (l : Columns). a ∈ l) (sym e) m)
+fact-below sheet kept f a (of-conjunct first second nullSafe n e) m =
+    let h = kept .equated first second nullSafe n in
+    of-two (λ (c : ℕ). c < 128) first second (h .0) (h .1) a (subst (λ (l : Columns). a ∈ l) (sym e) m)
+
+begins-below : (sheet : Sheet) → Kept sheet → {a b : ℕ} → Linked (Fact sheet) a b → a ≢ b → a < 128
+begins-below sheet kept (no-step e) n = absurd (n e)
+begins-below sheet kept (step {a = a} t l) n = fact-below sheet kept (t .0) a (t .1) (t .2)
+
+-- the ends of a chain of one step or more
+pub chain-below : (sheet : Sheet) → Kept sheet → {a b : ℕ} → Linked (Fact sheet) a b → a ≢ b → (a < 128) × (b < 128)
+chain-below sheet kept l n = (begins-below sheet kept l n, begins-below sheet kept (turned l) (λ e. n (sym e)))
+
+-- ---- every column alone
+
+apart-sound : (F : Columns → Type 0) (sheet : Sheet) → Sound F (apart sheet .roots)
+unfolding apart
+apart-sound F sheet = record {
+  size = tabulate-length itself 128;
+  range = λ c h. subst (λ (z : ℕ). z < 128) (sym (tabulate-at itself 128 c 0 h)) h;
+  linked = λ a b ha hb e. no-step (sym (tabulate-at itself 128 a 0 ha) ∙ e ∙ tabulate-at itself 128 b 0 hb);
+}
+
+-- ---- an edge gives one coverage at most
+
+one-coverage : (coverage : LeftCoverage) → length (coverageOf coverage) ≤ 1
+one-coverage Absent = omega arith
+one-coverage (Present coverage) = omega arith
+
+edge-coverage : (sheet : Sheet) (edge : EqualityEdge) (same : Bool) → length (edgeCoverages sheet edge same) ≤ 1
+unfolding edgeCoverages
+edge-coverage sheet edge same = go (connectsInputs sheet (edge .left) (edge .right)) same
+  where
+    go : (connects inside : Bool) → length (cond connects (coverageUnless inside (edgeEstimate sheet edge)) []) ≤ 1
+    go false inside = omega arith
+    go true true = omega arith
+    go true false = one-coverage (edgeEstimate sheet edge .«left_coverage»)
+
+edges-coverages : (sheet : Sheet) (state : Folded) (edges : List EqualityEdge) → length (withEdges sheet state edges .coverages) ≤ length (state .coverages) + length edges
+unfolding withEdges withEdge
+edges-coverages sheet state [] = omega arith
+edges-coverages sheet state (edge ∷ edges) =
+    let h = edges-coverages sheet (withEdge sheet state edge) edges in
+    let same = equivalent (state .classes) (edge .left) (edge .right) in
+    let e = length-append (state .coverages) (edgeCoverages sheet edge same) in
+    let c = edge-coverage sheet edge same in
+    omega arith
+
+pub coverage-count : (sheet : Sheet) (pairs : List EqualityPair) → length (foldedPairs sheet pairs .coverages) ≤ length pairs
+unfolding foldedPairs equalityEdges
+coverage-count sheet pairs =
+    let classes = fromProfiles sheet in
+    let marks = nonNullMarks pairs in
+    let h = edges-coverages sheet (record { classes = classes; figures = noEquality; coverages = [] }) (equalityEdges sheet classes marks pairs) in
+    let s = sort-length edgeBefore (map (edgeOf sheet classes marks) pairs) in
+    let m = length-map pairs (edgeOf sheet classes marks) in
+    omega arith
+
+-- ---- the unions of a whole join
+
+-- its classes behind all its edges
+abbrev pub joinState : Sheet → ClassState
+joinState sheet = foldedPairs sheet (equalityPairs sheet (sheet .conjuncts)) .classes
+
+module _ (sheet : Sheet) where
+  edges : List EqualityEdge
+  edges = equalityEdges sheet (fromProfiles sheet) (nonNullMarks (equalityPairs sheet (sheet .conjuncts))) (equalityPairs sheet (sheet .conjuncts))
+
+  edgeFor : EqualityPair → EqualityEdge
+  edgeFor pair = edgeOf sheet (fromProfiles sheet) (nonNullMarks (equalityPairs sheet (sheet .conjuncts))) pair
+
+  -- in order
+  unions : List Two
+  unions = allPairs (sheet .leftClasses) ++ (allPairs (sheet .rightClasses) ++ map ends edges)
+
+  roots-are : joinState sheet .roots ≡ joinedAll (apart sheet .roots) unions
+  unfolding unions edges foldedPairs fromProfiles
+  roots-are =
+      edges-roots sheet (record { classes = fromProfiles sheet; figures = noEquality; coverages = [] }) edges
+      ∙ ap (λ (l : List ℕ). joinedAll l (map ends edges))
+      (classes-roots sheet (withClasses sheet (apart sheet) (sheet .leftClasses)) (sheet .rightClasses)
+      ∙ ap (λ (l : List ℕ). joinedAll l (allPairs (sheet .rightClasses))) (classes-roots sheet (apart sheet) (sheet .leftClasses)))
+      ∙ sym (joined-append (joinedAll (apart sheet .roots) (allPairs (sheet .leftClasses))) (allPairs (sheet .rightClasses)) (map ends edges))
+      ∙ sym (joined-append (apart sheet .roots) (allPairs (sheet .leftClasses)) (allPairs (sheet .rightClasses) ++ map ends edges))
+
+  -- ---- the edges are the equating conjuncts
+
+  edge-ends : (pair : EqualityPair) → ends (edgeFor pair) ≡ (pair .left, pair .right)
+  unfolding edgeFor edgeOf edgeBetween
+  edge-ends pair = refl
+
+  edge-from : (p : Two) → p ∈ map ends edges → (pair : EqualityPair) × Equates sheet (pair .left) (pair .right) (pair .nullSafe) × ((pair .left, pair .right) ≡ p)
+  unfolding edges edgeFor equalityEdges
+  edge-from p m =
+      let e = Memᴰ·of-map ends edges m in
+      let pairs = equalityPairs sheet (sheet .conjuncts) in
+      let r = Memᴰ·of-map edgeFor pairs (sort-in edgeBefore (map edgeFor pairs) (e .0) (e .1)) in
+      (r .0, pairs-law sheet (r .0) .0 (r .1), sym (edge-ends (r .0)) ∙ ap ends (r .2) ∙ e .2)
+
+  edge-to : (first second : ℕ) (nullSafe : Bool) → Equates sheet first second nullSafe → (first, second) ∈ map ends edges
+  unfolding edges edgeFor equalityEdges
+  edge-to first second nullSafe h =
+      let pair : EqualityPair = record { left = first; right = second; nullSafe = nullSafe } in
+      let pairs = equalityPairs sheet (sheet .conjuncts) in
+      subst (λ (p : Two). p ∈ map ends edges) (edge-ends pair) (Memᴰ·map ends (in-sort edgeBefore (map edgeFor pairs) (edgeFor pair) (Memᴰ·map edgeFor (pairs-law sheet pair .1 h))))
+
+  -- ---- a union is of two columns of a fact
+
+  module _ (kept : Kept sheet) where
+    joins : (p : Two) (f : Columns) → Fact sheet f → p .0 ∈ f → p .1 ∈ f → Joins (Fact sheet) p
+    joins p f h m n = (fact-below sheet kept f (p .0) h m, fact-below sheet kept f (p .1) h n, one-step (f, h, m, n))
+
+    edge-joins : (p : Two) → p ∈ map ends edges → Joins (Fact sheet) p
+    edge-joins p m =
+        let r = edge-from p m in
+        let first = r .0 .left in
+        let second = r .0 .right in
+        subst (Joins (Fact sheet)) (r .2) (joins (first, second) (first ∷ second ∷ []) (of-conjunct first second (r .0 .nullSafe) (r .1) refl) (List·Memᴰ·head refl) (List·Memᴰ·tail (List·Memᴰ·head refl)))
+
+    union-joins : (p : Two) → p ∈ unions → Joins (Fact sheet) p
+    unfolding unions
+    union-joins p m =
+        ⊎-elim (λ (n : p ∈ allPairs (sheet .leftClasses)). let r = all-pair (sheet .leftClasses) p n in joins p (r .0 .columns) (of-left (r .0) (r .1) refl) (r .2) (r .3))
+        (λ (n : p ∈ allPairs (sheet .rightClasses) ++ map ends edges). ⊎-elim
+        (λ (o : p ∈ allPairs (sheet .rightClasses)). let r = all-pair (sheet .rightClasses) p o in joins p (r .0 .columns) (of-right (r .0) (r .1) refl) (r .2) (r .3))
+        (λ (o : p ∈ map ends edges). edge-joins p o)
+        (List·Memᴰ·append-cases (allPairs (sheet .rightClasses)) n))
+        (List·Memᴰ·append-cases (allPairs (sheet .leftClasses)) m)
+
+  -- ---- the columns of a fact are joined by unions
+
+  fact-agrees : (l : List ℕ) → ((p : Two) → p ∈ unions → Agree l p) → (f : Columns) (a b : ℕ) → Fact sheet f → a ∈ f → b ∈ f → rootOf l a ≡ rootOf l b
+  unfolding unions
+  fact-agrees l h f a b (of-left class n e) p q =
+      class-agrees l (class .columns) (λ z m. h z (Memᴰ·append-left (allPairs (sheet .rightClasses) ++ map ends edges) (pair-all (sheet .leftClasses) class n z m)))
+      a b (subst (λ (k : Columns). a ∈ k) (sym e) p) (subst (λ (k : Columns). b ∈ k) (sym e) q)
+  fact-agrees l h f a b (of-right class n e) p q =
+      class-agrees l (class .columns) (λ z m. h z (Memᴰ·append-right (allPairs (sheet .leftClasses)) (Memᴰ·append-left (map ends edges) (pair-all (sheet .rightClasses) class n z m))))
+      a b (subst (λ (k : Columns). a ∈ k) (sym e) p) (subst (λ (k : Columns). b ∈ k) (sym e) q)
+  fact-agrees l h f a b (of-conjunct first second nullSafe n e) p q =
+      let w : rootOf l first ≡ rootOf l second = h (first, second) (Memᴰ·append-right (allPairs (sheet .leftClasses)) (Memᴰ·append-right (allPairs (sheet .rightClasses)) (edge-to first second nullSafe n))) in
+      let to = of-two (λ (c : ℕ). rootOf l c ≡ rootOf l first) first second refl (sym w) in
+      to a (subst (λ (k : Columns). a ∈ k) (sym e) p) ∙ sym (to b (subst (λ (k : Columns). b ∈ k) (sym e) q))
+
+  -- ---- the whole
+
+  module _ (kept : Kept sheet) where
+    all-joined : Sound (Fact sheet) (joinState sheet .roots) × ((p : Two) → p ∈ unions → Agree (joinState sheet .roots) p)
+    all-joined =
+        let r = joined-all (Fact sheet) (apart sheet .roots) unions (apart-sound (Fact sheet) sheet) (union-joins kept) in
+        subst (λ (l : List ℕ). Sound (Fact sheet) l × ((p : Two) → p ∈ unions → Agree l p)) (sym roots-are) (r .0, r .2)
+
+    -- columns have one root exactly when a chain of facts links them
+    pub root-law : (a b : ℕ) → a < 128 → b < 128 → (find (joinState sheet) a ≡ find (joinState sheet) b) ↔ Linked (Fact sheet) a b
+    root-law a b ha hb = (all-joined .0 .linked a b ha hb, λ l. along (Fact sheet) (joinState sheet .roots) (fact-agrees (joinState sheet .roots) (all-joined .1)) l)
+
+    pub root-below : (c : ℕ) → c < 128 → find (joinState sheet) c < 128
+    root-below c h = all-joined .0 .range c h
+
+    pub roots-length : length (joinState sheet .roots) ≡ 128
+    roots-length = all-joined .0 .size

@@ -1,0 +1,137 @@
+-- Demand 3: what a join returns as blocks and as non-null columns, in the words of document 01 ("The words of demand 3"), by the facts of its sheet alone. How a join is worked out has no part in it. "Exactly when" is ↔; what stands on its two sides is data, so each side is turned into the other, which is more than that both hold or neither. Definitions only.
+use Prim.Native.Nat.{ℕ}
+use mathlib.Core.Path.{_≡_}
+use mathlib.Core.Logic.{_↔_, _≢_, _⊎_}
+use mathlib.Core.Bool.{Bool, true, false}
+use mathlib.Core.List.{List, [], _∷_, List·Memᴰ}
+use lib.ListN.{getD}
+use Rattle.records.specs.Classes.{ColumnEquivalenceClass}
+use Rattle.records.specs.declared.expressions.BinaryOp.{BinaryOp}
+use Rattle.records.specs.declared.expressions.BinaryOp.the-variants.{Eq, IsNotDistinctFrom}
+use Rattle.records.specs.declared.expressions.Expression.the-variants.{ColumnRef, Binary}
+use Rattle.sheet.specs.Sheet.{Sheet}
+use Rattle.lookup.specs.Lookup.{expressionOf}
+use Rattle.demand.specs.Reader.{blocks, nonNulls}
+
+-- ---- sets
+
+infix 50 _∈_
+abbrev pub _∈_ {ℓ} : {A : Type ℓ} → A → List A → Type ℓ
+a ∈ l = List·Memᴰ a l
+
+-- a set of columns is a list of which only the members count
+abbrev pub Columns : Type 0
+Columns = List ℕ
+
+abbrev pub Same : Columns → Columns → Type 0
+Same f g = (a : ℕ) → a ∈ f ↔ a ∈ g
+
+-- a set of sets of columns is told by which are in it
+abbrev pub Within : (Columns → Type 0) → (Columns → Type 0) → Type 0
+Within F G = (f : Columns) → F f → (g : Columns) × G g × Same f g
+
+abbrev pub SameSet : (Columns → Type 0) → (Columns → Type 0) → Type 0
+SameSet F G = Within F G × Within G F
+
+-- ---- equating conjuncts
+
+-- ordinary: SQL's equality; null-safe: IS NOT DISTINCT FROM
+abbrev pub opOf : Bool → BinaryOp
+opOf false = Eq
+opOf true = IsNotDistinctFrom
+
+-- a conjunct that names an expression which is itself binary (kind 3) with one of these operators, both its children being columns (kind 1), which may be the same
+pub record Equates (sheet : Sheet) (first second : ℕ) (nullSafe : Bool) : Type 0 where
+  pub conjunct : ℕ
+  pub stands : conjunct ∈ sheet .conjuncts
+  pub left : ℕ
+  pub right : ℕ
+  pub binary : expressionOf sheet conjunct ≡ Binary (opOf nullSafe) left right
+  pub leftColumn : expressionOf sheet left ≡ ColumnRef first
+  pub rightColumn : expressionOf sheet right ≡ ColumnRef second
+
+-- ---- facts
+
+-- the columns of a profile class of either side, or the one or two of an equating conjunct; neither distinct nor operator
+pub data Fact (sheet : Sheet) (f : Columns) : Type 0 where
+  of-left : (class : ColumnEquivalenceClass) → class ∈ sheet .leftClasses → class .columns ≡ f → Fact sheet f
+  of-right : (class : ColumnEquivalenceClass) → class ∈ sheet .rightClasses → class .columns ≡ f → Fact sheet f
+  of-conjunct : (first second : ℕ) (nullSafe : Bool) → Equates sheet first second nullSafe → first ∷ second ∷ [] ≡ f → Fact sheet f
+
+-- the facts of equating conjuncts alone
+pub data Equated (sheet : Sheet) (f : Columns) : Type 0 where
+  equated : (first second : ℕ) (nullSafe : Bool) → Equates sheet first second nullSafe → first ∷ second ∷ [] ≡ f → Equated sheet f
+
+-- ---- chains
+
+-- two columns in one fact
+abbrev pub Together : (Columns → Type 0) → ℕ → ℕ → Type 0
+Together F a b = (f : Columns) × F f × (a ∈ f) × (b ∈ f)
+
+-- from column to column, neighbours together in one fact; perhaps with no step
+pub data Linked (F : Columns → Type 0) : ℕ → ℕ → Type 0 where
+  no-step : {a b : ℕ} → a ≡ b → Linked F a b
+  step : {a b c : ℕ} → Together F a b → Linked F b c → Linked F a c
+
+-- a set of columns follows from facts when a chain of them links every two different ones of it
+abbrev pub Follows : (Columns → Type 0) → Columns → Type 0
+Follows G f = (a b : ℕ) → a ∈ f → b ∈ f → a ≢ b → Linked G a b
+
+abbrev pub AllFollow : (Columns → Type 0) → (Columns → Type 0) → Type 0
+AllFollow G F = (f : Columns) → F f → Follows G f
+
+-- a column of an ordinary equating conjunct
+pub record InOrdinary (sheet : Sheet) (column : ℕ) : Type 0 where
+  pub first : ℕ
+  pub second : ℕ
+  pub equates : Equates sheet first second false
+  pub stands : column ∈ first ∷ second ∷ []
+
+-- equating conjuncts lead from a column, in any number or none, to a column of an ordinary one
+abbrev pub LeadsToOrdinary : Sheet → ℕ → Type 0
+LeadsToOrdinary sheet a = (c : ℕ) × Linked (Equated sheet) a c × InOrdinary sheet c
+
+-- ---- likeness
+
+-- the same set of facts
+abbrev pub AlikeInFacts : Sheet → Sheet → Type 0
+AlikeInFacts s t = SameSet (Fact s) (Fact t)
+
+-- the same columns, either way round, under the same operator; order and repeats don't count
+abbrev pub EquatedIn : Sheet → Sheet → Type 0
+EquatedIn s t = (first second : ℕ) (nullSafe : Bool) → Equates s first second nullSafe → Equates t first second nullSafe ⊎ Equates t second first nullSafe
+
+abbrev pub AlikeInEquating : Sheet → Sheet → Type 0
+AlikeInEquating s t = EquatedIn s t × EquatedIn t s
+
+-- ---- what an answer says
+
+abbrev pub Block : List ℕ → Columns → Type 0
+Block answer k = k ∈ blocks answer
+
+abbrev pub ShareBlock : List ℕ → ℕ → ℕ → Type 0
+ShareBlock answer a b = (k : Columns) × Block answer k × (a ∈ k) × (b ∈ k)
+
+-- ---- the claim
+
+-- of one join: a sheet, and the bytes of its answer
+pub record OneJoin (sheet : Sheet) (answer : List ℕ) : Type 0 where
+  -- a returned block has two columns or more
+  pub two : (k : Columns) → Block answer k → (a : ℕ) × (b : ℕ) × (a ∈ k) × (b ∈ k) × (a ≢ b)
+  -- no two blocks share a column: blocks with a common column stand at one place
+  pub apart : (i j a : ℕ) → a ∈ getD (blocks answer) i [] → a ∈ getD (blocks answer) j [] → i ≡ j
+  -- two different columns share a block exactly when a chain of facts links them
+  pub share : (a b : ℕ) → a ≢ b → ShareBlock answer a b ↔ Linked (Fact sheet) a b
+  -- a column is non-null exactly when equating conjuncts lead from it to a column of an ordinary one
+  pub nonNull : (a : ℕ) → a ∈ nonNulls answer ↔ LeadsToOrdinary sheet a
+
+-- of any two joins
+pub record TwoJoins (s t : Sheet) (x y : List ℕ) : Type 0 where
+  pub first : OneJoin s x
+  pub second : OneJoin t y
+  -- the same set of blocks exactly when each one's facts follow from the other's
+  pub sameBlocks : SameSet (Block x) (Block y) ↔ (AllFollow (Fact t) (Fact s) × AllFollow (Fact s) (Fact t))
+  -- alike in facts: the same set of blocks
+  pub alikeInFacts : AlikeInFacts s t → SameSet (Block x) (Block y)
+  -- alike in equating conjuncts: the same non-null columns
+  pub alikeInEquating : AlikeInEquating s t → Same (nonNulls x) (nonNulls y)

@@ -1,0 +1,4 @@
+pub mod Reader
+pub mod Claim
+pub mod Demand
+pub mod Cases

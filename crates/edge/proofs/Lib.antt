@@ -1,0 +1,2 @@
+pub mod OrientedLaws
+pub mod EdgeLaws

@@ -1,0 +1,86 @@
+-- `equality_edge_estimate` of the source's analysis.rs. Definitions only.
+use Prim.Native.Nat.{ℕ}
+use mathlib.Core.Bool.{Bool, false, _&&_, not, cond}
+use lib.Dec.{eqb}
+use lib.Ieee.{Float, binary64, mul, div, lt}
+use Rattle.float.specs.Order.{f64Zero, f64One, f64Max, clampUnit}
+use Rattle.float.specs.Option.{none}
+use Rattle.float.specs.declared.option.OptionF64.{OptionF64}
+use Rattle.estimate.specs.declared.Estimate.{Estimate}
+use Rattle.records.specs.declared.columns.BaseColumn.{BaseColumn}
+use Rattle.records.specs.declared.columns.BaseColumn.the-variants.{Absent as NoBase, Present as Base}
+use Rattle.records.specs.declared.columns.ColumnProfile.{ColumnProfile}
+use Rattle.sheet.specs.Sheet.{Sheet}
+use Rattle.interval.specs.Intersection.{estimatedDistinctIntersection}
+use Rattle.interval.specs.declared.intersection.DistinctIntersection.{DistinctIntersection}
+use Rattle.sketch_join.specs.SketchJoin.{sketchJoinEstimate, sketchLeftMatchProbability}
+use Rattle.keys.specs.Keys.{singleColumnForeignKey, profileHasCompleteBasePopulation}
+use Rattle.edge.specs.Oriented.{joinColumnDistinct, orientedJoinColumns}
+use Rattle.edge.specs.Inputs.{edgeInputs}
+use Rattle.edge.specs.Figures.{disjointEstimate, foreignKeyEstimate, overlapEstimate}
+use Rattle.edge.specs.declared.OrientedColumns.{OrientedColumns}
+use Rattle.edge.specs.declared.OrientedColumns.the-variants.{Absent as NotOriented, Present as Oriented}
+use Rattle.edge.specs.declared.EdgeInputs.{EdgeInputs}
+use Rattle.edge.specs.declared.LeftCoverage.the-variants.{Absent as NoCoverage}
+use Rattle.edge.specs.declared.EqualityEdgeEstimate.{EqualityEdgeEstimate}
+
+-- ---- columns of which the inputs have no pair
+
+unfoldable pub unorientedEstimate : Sheet → ℕ → ℕ → EqualityEdgeEstimate
+unfolding joinColumnDistinct
+unorientedEstimate sheet first second =
+    let pair = div binary64 f64One (f64Max (f64Max (joinColumnDistinct sheet first) (joinColumnDistinct sheet second)) f64One) in
+    record {
+      «pair_selectivity» = pair;
+      «left_match_probability» = clampUnit (mul binary64 (sheet .rightRows .value) pair);
+      «left_coverage» = NoCoverage;
+      «domains_disjoint» = false;
+    }
+
+-- ---- a left column and a right one
+
+abbrev pub basesReferenced : Sheet → BaseColumn → BaseColumn → Bool
+basesReferenced sheet NoBase right = false
+basesReferenced sheet (Base table column) NoBase = false
+basesReferenced sheet (Base table column) (Base referencedTable referencedColumn) =
+    singleColumnForeignKey sheet table column referencedTable referencedColumn && profileHasCompleteBasePopulation sheet (sheet .rightRows) referencedTable
+
+-- an ordinary equality along a foreign key into the whole of a table with rows
+unfoldable pub isReference : Sheet → Bool → BaseColumn → BaseColumn → Bool
+unfolding singleColumnForeignKey profileHasCompleteBasePopulation
+isReference sheet nullSafe left right = not nullSafe && (lt f64Zero (sheet .rightRows .value) && basesReferenced sheet left right)
+
+abbrev pub unlessNullSafe : Bool → OptionF64 → OptionF64
+unlessNullSafe nullSafe option = cond nullSafe none option
+
+unfoldable pub estimateBySketches : Sheet → EdgeInputs → ColumnProfile → ColumnProfile → Float → EqualityEdgeEstimate
+unfolding sketchJoinEstimate sketchLeftMatchProbability overlapEstimate
+estimateBySketches sheet x left right intersection =
+    overlapEstimate x intersection
+    (unlessNullSafe (x .«null_safe») (sketchJoinEstimate (sheet .sketches) left (sheet .leftRows .value) right (sheet .rightRows .value)))
+    (unlessNullSafe (x .«null_safe») (sketchLeftMatchProbability (sheet .sketches) left (sheet .leftRows .value) right intersection (x .«left_distinct»)))
+
+-- disjoint domains before foreign keys, and those before the rest
+unfoldable pub estimateByInputs : Sheet → EdgeInputs → ColumnProfile → ColumnProfile → DistinctIntersection → EqualityEdgeEstimate
+unfolding disjointEstimate isReference foreignKeyEstimate estimateBySketches
+estimateByInputs sheet x left right intersection =
+    cond (intersection .«domains_disjoint») (disjointEstimate x)
+    (cond (isReference sheet (x .«null_safe») (left .base) (right .base)) (foreignKeyEstimate x (sheet .rightRows .value))
+    (estimateBySketches sheet x left right (intersection .distinct)))
+
+unfoldable pub orientedEstimate : Sheet → ℕ → ℕ → ColumnProfile → ColumnProfile → Bool → Float → Float → EqualityEdgeEstimate
+unfolding edgeInputs estimatedDistinctIntersection estimateByInputs
+orientedEstimate sheet leftColumn rightColumn left right nullSafe leftHint rightHint =
+    let x = edgeInputs sheet leftColumn rightColumn left right nullSafe leftHint rightHint in
+    estimateByInputs sheet x left right (estimatedDistinctIntersection left right (x .«left_distinct») (x .«right_distinct»))
+
+-- the hints change places with the columns
+abbrev pub estimateAs : Sheet → ℕ → ℕ → Bool → Float → Float → OrientedColumns → EqualityEdgeEstimate
+estimateAs sheet first second nullSafe firstNdv secondNdv NotOriented = unorientedEstimate sheet first second
+estimateAs sheet first second nullSafe firstNdv secondNdv (Oriented leftColumn rightColumn left right) =
+    orientedEstimate sheet leftColumn rightColumn left right nullSafe (cond (eqb leftColumn first) firstNdv secondNdv) (cond (eqb leftColumn first) secondNdv firstNdv)
+
+-- of the equality first = second, whose columns' classes have these distincts
+unfoldable pub equalityEdgeEstimate : Sheet → ℕ → ℕ → Bool → Float → Float → EqualityEdgeEstimate
+unfolding orientedJoinColumns unorientedEstimate orientedEstimate
+equalityEdgeEstimate sheet first second nullSafe firstNdv secondNdv = estimateAs sheet first second nullSafe firstNdv secondNdv (orientedJoinColumns sheet first second)

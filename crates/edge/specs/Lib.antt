@@ -1,0 +1,5 @@
+pub mod Oriented
+pub mod Inputs
+pub mod Figures
+pub mod Edge
+pub mod Cases

@@ -1,0 +1,44 @@
+-- `oriented_join_columns`, `join_column_distinct` and `join_column_non_null_fraction` of the source's analysis.rs. Definitions only.
+use Prim.Native.Nat.{ℕ}
+use lib.Ieee.{Float}
+use Rattle.float.specs.Order.{f64One}
+use Rattle.sheet.specs.Sheet.{Sheet}
+use Rattle.lookup.specs.Lookup.{leftProfile, rightProfile, profileIn, profileAndRows}
+use Rattle.lookup.specs.declared.profiles.ProfileAndRows.{ProfileAndRows}
+use Rattle.lookup.specs.declared.profiles.ProfileAndRows.the-variants.{Absent, Present}
+use Rattle.range.specs.Selectivity.{nonNullFraction}
+use Rattle.edge.specs.declared.OrientedColumns.{OrientedColumns}
+use Rattle.edge.specs.declared.OrientedColumns.the-variants.{Absent as NotOriented, Present as Oriented}
+
+-- a column of the left input and one of the right
+abbrev pub orientedAs : ℕ → ℕ → ProfileAndRows → ProfileAndRows → OrientedColumns
+orientedAs leftColumn rightColumn Absent right = NotOriented
+orientedAs leftColumn rightColumn (Present left leftRows) Absent = NotOriented
+orientedAs leftColumn rightColumn (Present left leftRows) (Present right rightRows) = Oriented leftColumn rightColumn left right
+
+abbrev pub orElseOriented : OrientedColumns → OrientedColumns → OrientedColumns
+orElseOriented NotOriented other = other
+orElseOriented (Oriented leftColumn rightColumn left right) other = Oriented leftColumn rightColumn left right
+
+-- as they stand, or else exchanged
+unfoldable pub orientedJoinColumns : Sheet → ℕ → ℕ → OrientedColumns
+unfolding profileIn
+orientedJoinColumns sheet first second =
+    orElseOriented (orientedAs first second (leftProfile sheet first) (rightProfile sheet second)) (orientedAs second first (leftProfile sheet second) (rightProfile sheet first))
+
+abbrev pub distinctOrOne : ProfileAndRows → Float
+distinctOrOne Absent = f64One
+distinctOrOne (Present profile rows) = profile .distinct .value
+
+unfoldable pub joinColumnDistinct : Sheet → ℕ → Float
+unfolding profileAndRows
+joinColumnDistinct sheet column = distinctOrOne (profileAndRows sheet column)
+
+abbrev pub fractionOrOne : ProfileAndRows → Float
+fractionOrOne Absent = f64One
+fractionOrOne (Present profile rows) = nonNullFraction (profile .frequency .value) rows
+
+-- a column that both inputs have is looked up on the left
+unfoldable pub joinColumnNonNullFraction : Sheet → ℕ → Float
+unfolding profileAndRows nonNullFraction
+joinColumnNonNullFraction sheet column = fractionOrOne (profileAndRows sheet column)

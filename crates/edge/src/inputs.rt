@@ -1,0 +1,85 @@
+// What the figures of an equality between a left and a right column are made from.
+ghost use mathlib.Core.Path.{_≡_};
+ghost use Rattle.sheet.specs.Sheet.{sheetOf};
+ghost use Rattle.lookup.specs.Lookup.{leftProfile, rightProfile};
+ghost use Rattle.lookup.specs.declared.profiles.ProfileAndRows.the-variants.{Present};
+ghost use Rattle.edge.specs.Inputs.{nullPairSelectivity, nullMatchProbability, edgeInputs};
+use crate::EdgeInputs;
+use crate::oriented::left_non_null_fraction;
+use crate::oriented::right_non_null_fraction;
+use estimate::Estimate;
+use estimate::bytes::estimate_at;
+use float::order::f64_max;
+use keys::effective_join_distinct;
+use records::columns::ColumnProfile;
+use rules::both;
+use sheet::Sections;
+
+fn left_rows_estimate(s: &[u8], q: Sections) -> Estimate
+    ensures { λ r. ⌜ r ≡ sheetOf (now (s .entry)) q .leftRows ⌝ }
+{
+    estimate_at(s, q.rows as usize + 2)
+}
+
+pub fn right_rows_estimate(s: &[u8], q: Sections) -> Estimate
+    ensures { λ r. ⌜ r ≡ sheetOf (now (s .entry)) q .rightRows ⌝ }
+{
+    estimate_at(s, q.rows as usize + 28)
+}
+
+fn null_pair_selectivity(nulls: bool, left_non_null: f64, right_non_null: f64) -> f64
+    ensures { λ r. ⌜ r ≡ nullPairSelectivity nulls «left_non_null» «right_non_null» ⌝ }
+{
+    if nulls {
+        return (1.0 - left_non_null) * (1.0 - right_non_null);
+    }
+    0.0
+}
+
+fn null_match_probability(nulls: bool, left_non_null: f64) -> f64
+    ensures { λ r. ⌜ r ≡ nullMatchProbability nulls «left_non_null» ⌝ }
+{
+    if nulls {
+        return 1.0 - left_non_null;
+    }
+    0.0
+}
+
+// The profiles are those that the columns have in the two inputs.
+pub fn edge_inputs(
+    s: &[u8],
+    q: Sections,
+    left_column: u16,
+    right_column: u16,
+    left: ColumnProfile,
+    right: ColumnProfile,
+    null_safe: bool,
+    left_hint: f64,
+    right_hint: f64,
+) -> EdgeInputs
+    requires { ⌜ (leftProfile (sheetOf (now s) q) «left_column» ≡ Present left (sheetOf (now s) q .leftRows .value)) × (rightProfile (sheetOf (now s) q) «right_column» ≡ Present right (sheetOf (now s) q .rightRows .value)) ⌝ }
+    ensures { λ r. ⌜ r ≡ edgeInputs (sheetOf (now (s .entry)) q) «left_column» «right_column» left right «null_safe» «left_hint» «right_hint» ⌝ }
+{
+    let left_rows = left_rows_estimate(s, q);
+    let right_rows = right_rows_estimate(s, q);
+    let left_distinct = f64_max(effective_join_distinct(s, q, left_rows, left), left_hint);
+    let right_distinct = f64_max(effective_join_distinct(s, q, right_rows, right), right_hint);
+    let left_non_null = left_non_null_fraction(s, q, left_column, left);
+    let right_non_null = right_non_null_fraction(s, q, right_column, right);
+    let left_has_null = left.frequency.value < left_rows.value;
+    let right_has_null = right.frequency.value < right_rows.value;
+    let both_have_null = both(null_safe, both(left_has_null, right_has_null));
+    EdgeInputs {
+        left_column,
+        null_safe,
+        left_distinct,
+        right_distinct,
+        left_non_null,
+        right_non_null,
+        null_pair_selectivity: null_pair_selectivity(both_have_null, left_non_null, right_non_null),
+        null_match_probability: null_match_probability(
+            both(null_safe, right_has_null),
+            left_non_null,
+        ),
+    }
+}

@@ -1,0 +1,3 @@
+pub mod NonNullLaws
+pub mod PairLaws
+pub mod MarkedLaws

@@ -1,0 +1,6 @@
+pub mod ResidualLaws
+pub mod SideLaws
+pub mod CoverageLaws
+pub mod EdgeLaws
+pub mod FoldLaws
+pub mod JoinLaws

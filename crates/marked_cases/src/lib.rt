@@ -1,0 +1,1 @@
+// No code: document 01's marked cases stand in specs/, and their proof in proofs/.

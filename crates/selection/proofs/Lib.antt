@@ -1,0 +1,2 @@
+pub mod SelectedLaws
+pub mod WriteLaws

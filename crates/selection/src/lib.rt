@@ -1,0 +1,1 @@
+// No code: the numbers that pass a test, and their laws, stand in specs/ and proofs/.

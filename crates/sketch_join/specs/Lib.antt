@@ -1,0 +1,2 @@
+pub mod SketchJoin
+pub mod Cases
