@@ -6,41 +6,26 @@ use mathlib.Core.Bool.{Bool}
 use mathlib.Core.List.{List, [], _∷_, map, map-map, List·Memᴰ·not-nil, Memᴰ·map, Memᴰ·of-map}
 use native.Mathlib.Omega.{arith}
 use borrow.Author.Tests.{eq-eqb, eqb-true, leb-true, le-leb}
-use lib.ListN.{length, getD, length-append, length-map}
+use lib.ListN.{length, getD, length-map}
 use Rattle.records.specs.Classes.{ColumnEquivalenceClass}
 use Rattle.sheet.specs.Sheet.{Sheet}
-use Rattle.parts.specs.Parts.{columnEquality}
-use Rattle.parts.specs.declared.equalities.ColumnEquality.{ColumnEquality}
-use Rattle.parts.specs.declared.equalities.ColumnEquality.the-variants.{Absent, Present}
-use Rattle.lookup.specs.Lookup.{expressionOf}
 use Rattle.selection.specs.Selected.{selected}
 use Rattle.selection.proofs.SelectedLaws.{selected-in, in-selected, selected-length, selected-rising, rising-once, rising-two, two-members}
 use Rattle.class_state.specs.State.{ClassState, find, hasRoot, members, isReturned, returnedRoots, classAtRoot, intoClasses}
-use Rattle.equality_pairs.specs.Pairs.{nullSafeIn, pairOf, equalityPair, equalityPairs}
+use Rattle.equality_pairs.specs.Pairs.{equalityPairs}
 use Rattle.equality_pairs.specs.NonNull.{isMarked, nonNullMarks, markedColumns}
+use Rattle.equality_pairs.proofs.PairLaws.{pairs-length}
 use Rattle.join.specs.Join.{estimateOf, joinSelectivityFromConjuncts}
-use Rattle.estimates.specs.Join.{joinBytes, joinOf}
+use Rattle.join.proofs.CountLaws.{coverage-count}
+use Rattle.join_answer.specs.Join.{joinBytes, joinOf}
 use Rattle.demand.specs.Reader.{blocks, nonNulls}
 use Rattle.demand.specs.Claim.{_∈_, Columns, Fact, Linked, LeadsToOrdinary, Block, ShareBlock, OneJoin}
 use Rattle.demand.proofs.Kept.{Kept}
-use Rattle.demand.proofs.LinkLaws.{joinState, root-law, root-below, chain-below, coverage-count}
+use Rattle.demand.proofs.LinkLaws.{joinState, root-law, root-below, chain-below}
 use Rattle.demand.proofs.WalkLaws.{walk-law}
 use Rattle.demand.proofs.ReadLaws.{Short, ShortJoin, columnsOf, blocks-read, non-nulls-read}
 
 -- ---- counts
-
-pair-count : (sheet : Sheet) (es : List ℕ) → length (equalityPairs sheet es) ≤ length es
-unfolding equalityPairs equalityPair
-pair-count sheet [] = omega arith
-pair-count sheet (e ∷ es) =
-    let a = length-append (equalityPair sheet e) (equalityPairs sheet es) in
-    let b = one (nullSafeIn (expressionOf sheet e)) (columnEquality sheet e) in
-    let c = pair-count sheet es in
-    omega arith
-  where
-    one : (nullSafe : Bool) (equality : ColumnEquality) → length (pairOf nullSafe equality) ≤ 1
-    one nullSafe Absent = omega arith
-    one nullSafe (Present left right) = omega arith
 
 selected-short : (test : ℕ → Bool) → Short (selected test 0 128)
 selected-short test = record {
@@ -105,7 +90,7 @@ module _ (sheet : Sheet) (kept : Kept sheet) where
   short = record {
     classCount = subst (λ (n : ℕ). n < 65536) (sym (length-map returned (classAtRoot sheet state))) (selected-short (isReturned (state .roots)) .count);
     classes = class-short;
-    coverageCount = few _ _ _ (coverage-count sheet (equalityPairs sheet (sheet .conjuncts))) (pair-count sheet (sheet .conjuncts)) (kept .conjunctCount);
+    coverageCount = few _ _ _ (coverage-count sheet (equalityPairs sheet (sheet .conjuncts))) (pairs-length sheet (sheet .conjuncts)) (kept .conjunctCount);
     nonNull = selected-short (isMarked (nonNullMarks (equalityPairs sheet (sheet .conjuncts))));
   }
     where

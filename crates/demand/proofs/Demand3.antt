@@ -13,9 +13,9 @@ use Rattle.sheet.specs.Sheet.{sheetIn}
 use Rattle.sheet.specs.declared.Checked.{Checked}
 use Rattle.sheet.specs.declared.Checked.the-variants.{Refused as SheetRefused, Accepted}
 use Rattle.sheet.proofs.AcceptedLaws.{accepted}
-use Rattle.estimates.specs.Answers.{Result, refusal, bytes, answered, leaves, sheetResult}
-use Rattle.estimates.specs.Join.{joinBytes, joinOf, joinResult}
-use Rattle.estimates.specs.declared.answer.Answer.the-variants.{Refused, Written}
+use Rattle.answers.specs.Answers.{Result, refusal, bytes, answered, leaves, sheetResult}
+use Rattle.join_answer.specs.Join.{joinBytes, joinOf, joinResult}
+use Rattle.answers.specs.declared.Answer.the-variants.{Refused, Written}
 use Rattle.demand.specs.Claim.{OneJoin}
 use Rattle.demand.specs.Demand.{AcceptedJoin, returned, Demand3}
 use Rattle.demand.proofs.KeptLaws.{kept}

@@ -1,22 +1,18 @@
--- The roots of a whole join, all below 128, agree exactly where a chain of the sheet's facts links; and a join has no more coverages than pairs. Assumes nothing.
-use Prim.Native.Nat.{ℕ, _+_, _≤_, _<_}
+-- The roots of a whole join, all below 128, agree exactly where a chain of the sheet's facts links. Assumes nothing.
+use Prim.Native.Nat.{ℕ, _<_}
 use mathlib.Core.Path.{_≡_, refl, sym, subst, _∙_, ap}
 use mathlib.Core.Logic.{_↔_, _≢_, ⊎-elim}
-use mathlib.Core.Bool.{Bool, true, false, cond}
+use mathlib.Core.Bool.{Bool}
 use mathlib.Core.List.{List, [], _∷_, _++_, map, List·Memᴰ·head, List·Memᴰ·tail, List·Memᴰ·cases-cons, List·Memᴰ·eq-of-singleton, List·Memᴰ·append-cases, Memᴰ·append-left, Memᴰ·append-right, Memᴰ·map, Memᴰ·of-map}
-use native.Mathlib.Omega.{arith}
-use lib.ListN.{length, length-append, length-map}
+use lib.ListN.{length}
 use Rattle.records.proofs.ListLaws.{tabulate-length, tabulate-at}
 use Rattle.sheet.specs.Sheet.{Sheet}
-use Rattle.class_state.specs.State.{ClassState, find, equivalent, itself, apart, withClasses, fromProfiles}
+use Rattle.class_state.specs.State.{ClassState, find, itself, apart, withClasses, fromProfiles}
 use Rattle.equality_pairs.specs.Pairs.{EqualityPair, equalityPairs}
 use Rattle.equality_pairs.specs.NonNull.{nonNullMarks}
-use Rattle.edge_order.proofs.SortLaws.{sort-in, in-sort, sort-length}
-use Rattle.edge.specs.declared.LeftCoverage.{LeftCoverage}
-use Rattle.edge.specs.declared.LeftCoverage.the-variants.{Absent, Present}
-use Rattle.join.specs.Sides.{connectsInputs}
+use Rattle.edge_order.proofs.SortLaws.{sort-in, in-sort}
 use Rattle.join.specs.Edges.{EqualityEdge, edgeBetween, edgeOf, edgeBefore, equalityEdges}
-use Rattle.join.specs.Fold.{Folded, noEquality, coverageOf, coverageUnless, edgeEstimate, edgeCoverages, withEdge, withEdges}
+use Rattle.join.specs.Fold.{noEquality, withEdges}
 use Rattle.join.specs.Join.{foldedPairs}
 use Rattle.demand.specs.Claim.{_∈_, Columns, Equates, Fact, of-left, of-right, of-conjunct, Linked, no-step, step}
 use Rattle.demand.proofs.Kept.{Kept}
@@ -56,41 +52,6 @@ apart-sound F sheet = record {
   range = λ c h. subst (λ (z : ℕ). z < 128) (sym (tabulate-at itself 128 c 0 h)) h;
   linked = λ a b ha hb e. no-step (sym (tabulate-at itself 128 a 0 ha) ∙ e ∙ tabulate-at itself 128 b 0 hb);
 }
-
--- ---- an edge gives one coverage at most
-
-one-coverage : (coverage : LeftCoverage) → length (coverageOf coverage) ≤ 1
-one-coverage Absent = omega arith
-one-coverage (Present coverage) = omega arith
-
-edge-coverage : (sheet : Sheet) (edge : EqualityEdge) (same : Bool) → length (edgeCoverages sheet edge same) ≤ 1
-unfolding edgeCoverages
-edge-coverage sheet edge same = go (connectsInputs sheet (edge .left) (edge .right)) same
-  where
-    go : (connects inside : Bool) → length (cond connects (coverageUnless inside (edgeEstimate sheet edge)) []) ≤ 1
-    go false inside = omega arith
-    go true true = omega arith
-    go true false = one-coverage (edgeEstimate sheet edge .«left_coverage»)
-
-edges-coverages : (sheet : Sheet) (state : Folded) (edges : List EqualityEdge) → length (withEdges sheet state edges .coverages) ≤ length (state .coverages) + length edges
-unfolding withEdges withEdge
-edges-coverages sheet state [] = omega arith
-edges-coverages sheet state (edge ∷ edges) =
-    let h = edges-coverages sheet (withEdge sheet state edge) edges in
-    let same = equivalent (state .classes) (edge .left) (edge .right) in
-    let e = length-append (state .coverages) (edgeCoverages sheet edge same) in
-    let c = edge-coverage sheet edge same in
-    omega arith
-
-pub coverage-count : (sheet : Sheet) (pairs : List EqualityPair) → length (foldedPairs sheet pairs .coverages) ≤ length pairs
-unfolding foldedPairs equalityEdges
-coverage-count sheet pairs =
-    let classes = fromProfiles sheet in
-    let marks = nonNullMarks pairs in
-    let h = edges-coverages sheet (record { classes = classes; figures = noEquality; coverages = [] }) (equalityEdges sheet classes marks pairs) in
-    let s = sort-length edgeBefore (map (edgeOf sheet classes marks) pairs) in
-    let m = length-map pairs (edgeOf sheet classes marks) in
-    omega arith
 
 -- ---- the unions of a whole join
 

@@ -18,7 +18,7 @@ use Rattle.class_state.specs.Bytes.{classBytes, classesBytes}
 use Rattle.edge.specs.declared.LeftEqualityCoverage.{LeftEqualityCoverage}
 use Rattle.join.specs.Join.{JoinSelectivityEstimate}
 use Rattle.join.specs.Coverages.{coverageBytes, coveragesBytes}
-use Rattle.estimates.specs.Join.{figuresBytes, joinBytes}
+use Rattle.join_answer.specs.Join.{figuresBytes, joinBytes}
 use Rattle.demand.specs.Reader.{classesPlace, blockAt, behindClass, blocksFrom, behindClasses, blocks, coveragesPlace, nonNullPlace, columnIn, nonNulls}
 use Rattle.demand.specs.Claim.{_∈_, Columns}
 

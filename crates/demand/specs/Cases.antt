@@ -7,9 +7,9 @@ use lib.Ieee.{ofBits, le}
 use Rattle.le.specs.Fields.{fieldAt, fieldBytes}
 use Rattle.sheet.specs.Sheet.{sheetIn}
 use Rattle.join.specs.Join.{joinSelectivityFromConjuncts}
-use Rattle.estimates.specs.Answers.{answered, leaves}
-use Rattle.estimates.specs.Join.{joinBytes, joinOf, joinResult}
-use Rattle.estimates.specs.declared.answer.Answer.the-variants.{Written}
+use Rattle.answers.specs.Answers.{answered, leaves}
+use Rattle.join_answer.specs.Join.{joinBytes, joinOf, joinResult}
+use Rattle.answers.specs.declared.Answer.the-variants.{Written}
 use Rattle.demand.specs.Reader.{blocks, nonNulls}
 use Rattle.demand.specs.Demand.{AcceptedJoin}
 

@@ -4,10 +4,10 @@ use mathlib.Core.Path.{_≡_}
 use mathlib.Core.List.{List}
 use lib.ListN.{take}
 use Rattle.sheet.specs.Sheet.{sheetIn}
-use Rattle.estimates.specs.Answers.{Comes}
-use Rattle.estimates.specs.Join.{joinResult}
-use Rattle.estimates.specs.declared.answer.Answer.{Answer}
-use Rattle.estimates.specs.declared.answer.Answer.the-variants.{Written}
+use Rattle.answers.specs.Answers.{Comes}
+use Rattle.join_answer.specs.Join.{joinResult}
+use Rattle.answers.specs.declared.Answer.{Answer}
+use Rattle.answers.specs.declared.Answer.the-variants.{Written}
 use Rattle.demand.specs.Claim.{TwoJoins}
 
 -- a call of `join`: the bytes of its sheet and the output that it was lent; `comes` is the entry's contract

@@ -4,7 +4,7 @@ use mathlib.Core.List.{List}
 use Rattle.estimate.specs.Bytes.{estimateBytes}
 use Rattle.sheet.specs.Sheet.{Sheet}
 use Rattle.predicate.specs.Predicate.{filterSelectivityForPredicate}
-use Rattle.estimates.specs.Answers.{Result, expressionResult}
+use Rattle.answers.specs.Answers.{Result, expressionResult}
 
 unfoldable pub predicateBytes : Sheet → ℕ → List ℕ
 unfolding estimateBytes filterSelectivityForPredicate

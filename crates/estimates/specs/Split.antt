@@ -6,7 +6,7 @@ use Rattle.le.specs.Fields.{fieldBytes, u16Bytes}
 use Rattle.sheet.specs.Sheet.{Sheet}
 use Rattle.number_bytes.specs.Numbers.{numbersBytes}
 use Rattle.split.specs.Conjuncts.{conjuncts}
-use Rattle.estimates.specs.Answers.{Result, expressionResult}
+use Rattle.answers.specs.Answers.{Result, expressionResult}
 
 unfoldable pub splitBytes : Sheet → ℕ → List ℕ
 unfolding fieldBytes numbersBytes conjuncts

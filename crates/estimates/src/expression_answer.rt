@@ -1,11 +1,11 @@
 // Questions about one expression: the refusals that stand before an answer, in their order.
 ghost use mathlib.Core.Path.{_≡_};
 ghost use Rattle.sheet.specs.Sheet.{sheetOf};
-ghost use Rattle.estimates.specs.Answers.{bytes, answered, leaves, namedResult, expressionResult};
+ghost use Rattle.answers.specs.Answers.{bytes, answered, leaves, namedResult, expressionResult};
 ghost use Rattle.estimates.specs.Question.{answerBytes};
-use crate::answer::Answer;
 use crate::predicate_answer::write_estimate;
 use crate::split_answer::write_conjuncts;
+use answers::Answer;
 use lookup::numbers::expression_count;
 use sheet::Checked;
 use sheet::Sections;

@@ -1,20 +1,16 @@
 // The answers for planners, from a sheet's bytes into an output that the caller lends.
 ghost use mathlib.Core.Path.{_≡_};
-ghost use Rattle.estimates.specs.Answers.{answered, leaves, Comes, answerNumber};
+ghost use Rattle.answers.specs.Answers.{answered, leaves, Comes, answerNumber};
 ghost use Rattle.estimates.specs.Predicate.{predicateResult};
 ghost use Rattle.estimates.specs.Split.{splitResult};
-ghost use Rattle.estimates.specs.Join.{joinResult};
-use answer::Answer;
-use answer::answer_number;
+ghost use Rattle.join_answer.specs.Join.{joinResult};
+use answers::Answer;
+use answers::answer_number;
 use expression_answer::Question;
 use expression_answer::answer_expression;
 use join_answer::answer_join;
 
-pub mod answer;
-mod conjuncts;
 mod expression_answer;
-mod join_answer;
-mod join_parts;
 mod predicate_answer;
 mod split_answer;
 

@@ -1,9 +1,9 @@
 // The bytes of a predicate's answer.
 ghost use mathlib.Core.Path.{_≡_};
 ghost use Rattle.sheet.specs.Sheet.{sheetOf};
-ghost use Rattle.estimates.specs.Answers.{bytes, answered, leaves};
+ghost use Rattle.answers.specs.Answers.{bytes, answered, leaves};
 ghost use Rattle.estimates.specs.Predicate.{predicateBytes};
-use crate::answer::Answer;
+use answers::Answer;
 use estimate::bytes::put_estimate;
 use predicate::filter_selectivity_for_predicate;
 use sheet::Sections;

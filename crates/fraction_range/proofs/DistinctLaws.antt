@@ -43,21 +43,21 @@ min-right x y p q = go (lt y x) (not-lt-le y x q p)
     go true k = le-own y q
     go false k = k refl
 
-max-left : (x y : Float) → T (nonneg x) → T (le x (f64Max x y))
+pub max-left : (x y : Float) → T (nonneg x) → T (le x (f64Max x y))
 max-left x y p = go (lt x y) (λ e. lt-le x y (holds (lt x y) e))
   where
     go : (b : Bool) → (b ≡ true → T (le x y)) → T (le x (cond b y x))
     go true k = k refl
     go false k = le-own x p
 
-max-right : (x y : Float) → T (nonneg x) → T (nonneg y) → T (le y (f64Max x y))
+pub max-right : (x y : Float) → T (nonneg x) → T (nonneg y) → T (le y (f64Max x y))
 max-right x y p q = go (lt x y) (not-lt-le x y p q)
   where
     go : (b : Bool) → (b ≡ false → T (le y x)) → T (le y (cond b y x))
     go true k = le-own y q
     go false k = k refl
 
-max-le : (x y z : Float) → T (le x z) → T (le y z) → T (le (f64Max x y) z)
+pub max-le : (x y z : Float) → T (le x z) → T (le y z) → T (le (f64Max x y) z)
 max-le x y z h k = go (lt x y)
   where
     go : (b : Bool) → T (le (cond b y x) z)

@@ -4,3 +4,4 @@ pub mod CoverageLaws
 pub mod EdgeLaws
 pub mod FoldLaws
 pub mod JoinLaws
+pub mod CountLaws

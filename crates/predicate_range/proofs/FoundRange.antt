@@ -41,7 +41,7 @@ abbrev pub LawfulFound : ℕ → ProfileAndRows → Type 0
 LawfulFound n Absent = Unit {0}
 LawfulFound n (Present profile rows) = LawfulProfile n profile × LawfulFigure rows
 
-profile-in-lawful : (n : ℕ) (rows : Float) → LawfulFigure rows → (column : ℕ) (l : List ColumnProfile) → Each (LawfulProfile n) l → LawfulFound n (profileIn rows column l)
+pub profile-in-lawful : (n : ℕ) (rows : Float) → LawfulFigure rows → (column : ℕ) (l : List ColumnProfile) → Each (LawfulProfile n) l → LawfulFound n (profileIn rows column l)
 unfolding profileIn
 profile-in-lawful n rows f column [] h = tt
 profile-in-lawful n rows f column (p ∷ ps) h =

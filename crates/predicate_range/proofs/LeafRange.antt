@@ -39,7 +39,7 @@ selectivity-unit x h = elim (or-split (plusZero x) (between least f64One x) (h .
 ]
 
 -- ---- bounds
-from-zero : (x : Float) → Unit01 x → T (le f64Zero x)
+pub from-zero : (x : Float) → Unit01 x → T (le f64Zero x)
 from-zero x u = not-lt-le x f64Zero (u .low) tt (nonneg-not-below x (u .low))
 
 pub unit-bounded : (x : Float) → Unit01 x → BoundedInUnit (unitEstimate x)

@@ -5,12 +5,12 @@ use mathlib.Core.List.{List}
 use lib.Dec.{eqb}
 use lib.ListN.{replicate}
 use Rattle.le.specs.Fields.{byteAt}
-use Rattle.estimates.specs.Answers.{Result, answered, leaves}
+use Rattle.answers.specs.Answers.{Result, answered, leaves}
 use Rattle.estimates.specs.Predicate.{predicateResult}
 use Rattle.estimates.specs.Split.{splitResult}
-use Rattle.estimates.specs.Join.{joinResult}
-use Rattle.estimates.specs.declared.answer.Answer.{Answer}
-use Rattle.estimates.specs.declared.answer.Answer.the-variants.{Refused, Written}
+use Rattle.join_answer.specs.Join.{joinResult}
+use Rattle.answers.specs.declared.Answer.{Answer}
+use Rattle.answers.specs.declared.Answer.the-variants.{Refused, Written}
 
 -- the first n bytes of one list are those of the other from a place on
 unfoldable pub sameBytes : List ℕ → List ℕ → ℕ → ℕ → Bool

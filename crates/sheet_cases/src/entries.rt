@@ -2,7 +2,7 @@
 ghost use mathlib.Core.Path.{_≡_};
 ghost use Prim.Native.Nat.{_+_, _<_, _^_};
 ghost use Rattle.sheet_cases.specs.Entries.{sameBytes, isAnswer, isPredicate, isSplit, isJoin};
-use estimates::answer::Answer;
+use answers::Answer;
 use le::reads::byte_at;
 
 fn same_bytes(out: &[u8], a: &[u8], at: usize, n: usize) -> bool

@@ -1,6 +1,6 @@
 -- The answer's number, and the output as the entry leaves it. Assumes nothing.
 use mathlib.Core.Path.{ap, _∙_}
-use Rattle.estimates.specs.Answers.{answerNumber}
+use Rattle.answers.specs.Answers.{answerNumber}
 use borrow.Author.Needs.{needs}
 use Rattle.estimates.proofs.estimates_join.Statement.{statement}
 use Rattle.estimates.proofs.estimates_join.Tie as tie

@@ -1,7 +1,7 @@
 -- The answer's number, and the output as the entry leaves it. Assumes nothing.
 use mathlib.Core.Path.{ap, _∙_}
 use borrow.Author.Needs.{needs}
-use Rattle.estimates.specs.Answers.{answerNumber}
+use Rattle.answers.specs.Answers.{answerNumber}
 use Rattle.estimates.proofs.estimates_split.Statement.{statement}
 use Rattle.estimates.proofs.estimates_split.Tie as tie
 

@@ -1,8 +1,8 @@
 -- The sheet's own refusal comes first, and then the answer of an accepted sheet. Assumes nothing.
 use borrow.Author.Needs.{needs}
-use Rattle.estimates.proofs.AnswerLaws.{refused, sheet-refused, sheet-accepted, comes-as}
+use Rattle.answers.proofs.AnswerLaws.{refused, sheet-refused, sheet-accepted, comes-as}
 use Rattle.sheet.specs.Sheet.{Sheet}
-use Rattle.estimates.specs.Answers.{namedResult, expressionResult}
+use Rattle.answers.specs.Answers.{namedResult, expressionResult}
 use Rattle.estimates.specs.Question.{answerBytes}
 use Rattle.estimates.proofs.expression_answer.answer_expression.Statement.{statement}
 use Rattle.estimates.proofs.expression_answer.answer_expression.Tie as tie

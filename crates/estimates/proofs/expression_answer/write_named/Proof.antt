@@ -1,7 +1,7 @@
 -- An expression that is not in the sheet is refused by 11. Assumes nothing.
 use native.Mathlib.Omega.{arith}
 use borrow.Author.Needs.{needs}
-use Rattle.estimates.proofs.AnswerLaws.{refused, named-in, named-out, comes-as}
+use Rattle.answers.proofs.AnswerLaws.{refused, named-in, named-out, comes-as}
 use Rattle.estimates.proofs.expression_answer.write_named.Statement.{statement}
 use Rattle.estimates.proofs.expression_answer.write_named.Tie as tie
 

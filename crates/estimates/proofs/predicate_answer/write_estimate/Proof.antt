@@ -2,7 +2,7 @@
 use native.Mathlib.Omega.{arith}
 use borrow.Author.Needs.{needs}
 use Rattle.estimates.proofs.PredicateLaws.{predicate-length, predicate-written}
-use Rattle.estimates.proofs.AnswerLaws.{fitting, too-short}
+use Rattle.answers.proofs.AnswerLaws.{fitting, too-short}
 use Rattle.sheet.specs.Sheet.{sheetOf}
 use Rattle.estimates.proofs.predicate_answer.write_estimate.Statement.{statement}
 use Rattle.estimates.proofs.predicate_answer.write_estimate.Tie as tie

@@ -5,7 +5,7 @@ use borrow.Author.Needs.{needs}
 use lib.ListN.{length}
 use Rattle.sheet.specs.Sheet.{sheetOf}
 use Rattle.estimates.proofs.SplitLaws.{split-length, split-written, has-room, no-room}
-use Rattle.estimates.proofs.AnswerLaws.{fitting, too-short}
+use Rattle.answers.proofs.AnswerLaws.{fitting, too-short}
 use Rattle.estimates.proofs.split_answer.write_conjuncts.Statement.{statement}
 use Rattle.estimates.proofs.split_answer.write_conjuncts.Tie as tie
 

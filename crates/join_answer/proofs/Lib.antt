@@ -1,0 +1,4 @@
+pub mod CopyLaws
+pub mod ConjunctLaws
+pub mod JoinLaws
+pub mod BoundLaws

@@ -1,0 +1,37 @@
+-- The answer of a join: figures, classes, coverages and non-null columns, each after its count (document 01, "Three answers"). Definitions only.
+use Prim.Native.Nat.{ℕ}
+use mathlib.Core.List.{List, _++_}
+use lib.ListN.{length}
+use Rattle.le.specs.Fields.{fieldBytes, u16Bytes}
+use Rattle.le.specs.Floats.{f64Bytes}
+use Rattle.estimate.specs.Bytes.{estimateBytes}
+use Rattle.number_bytes.specs.Numbers.{numbersBytes}
+use Rattle.sheet.specs.Check.{check}
+use Rattle.sheet.specs.Sheet.{Sheet, sheetIn}
+use Rattle.class_state.specs.Bytes.{classesBytes}
+use Rattle.join.specs.Join.{JoinSelectivityEstimate, joinSelectivityFromConjuncts}
+use Rattle.join.specs.Coverages.{coveragesBytes}
+use Rattle.answers.specs.Answers.{Result, bytes, sheetResult}
+
+unfoldable pub figuresBytes : JoinSelectivityEstimate → List ℕ
+unfolding estimateBytes fieldBytes
+figuresBytes j = estimateBytes (j .selectivity) ++ (estimateBytes (j .matchProbability) ++ f64Bytes (j .residualSelectivity))
+
+unfoldable pub joinBytes : JoinSelectivityEstimate → List ℕ
+unfolding figuresBytes fieldBytes classesBytes coveragesBytes numbersBytes
+joinBytes j =
+    u16Bytes 1
+    ++ (figuresBytes j
+    ++ (u16Bytes (length (j .equivalenceClasses))
+    ++ (classesBytes (j .equivalenceClasses)
+    ++ (u16Bytes (length (j .leftEqualityCoverages))
+    ++ (coveragesBytes (j .leftEqualityCoverages)
+    ++ (u16Bytes (length (j .nonNullEqualityColumns)) ++ numbersBytes (j .nonNullEqualityColumns)))))))
+
+-- of the sheet's own conjuncts
+abbrev pub joinOf : Sheet → JoinSelectivityEstimate
+joinOf sheet = joinSelectivityFromConjuncts sheet (sheet .conjuncts)
+
+unfoldable pub joinResult : List ℕ → Result
+unfolding check sheetIn joinSelectivityFromConjuncts joinBytes
+joinResult s = sheetResult (check s) (bytes (joinBytes (joinOf (sheetIn s))))

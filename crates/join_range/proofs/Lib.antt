@@ -1,0 +1,12 @@
+pub mod EachLaws
+pub mod ResidualRange
+pub mod ClassRange
+pub mod EdgesRange
+pub mod ClearLaws
+pub mod ProductLaws
+pub mod ShareLaws
+pub mod SketchJoinRange
+pub mod EdgeRange
+pub mod FoldRange
+pub mod MatchRange
+pub mod JoinRangeLaws

@@ -1,0 +1,1 @@
+// No code: the range of a join's figures stands in specs/ and proofs/.
