@@ -16,7 +16,7 @@ use Rattle.equality_pairs.specs.Pairs.{equalityPairs}
 use Rattle.equality_pairs.specs.NonNull.{isMarked, nonNullMarks, markedColumns}
 use Rattle.equality_pairs.proofs.PairLaws.{pairs-length}
 use Rattle.join.specs.Join.{estimateOf, joinSelectivityFromConjuncts}
-use Rattle.join.proofs.CountLaws.{coverage-count}
+use Rattle.edge_fold.proofs.CountLaws.{coverage-count}
 use Rattle.join_answer.specs.Join.{joinBytes, joinOf}
 use Rattle.demand.specs.Reader.{blocks, nonNulls}
 use Rattle.demand.specs.Claim.{_∈_, Columns, Fact, Linked, LeadsToOrdinary, Block, ShareBlock, OneJoin}

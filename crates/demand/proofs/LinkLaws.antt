@@ -11,9 +11,8 @@ use Rattle.class_state.specs.State.{ClassState, find, itself, apart, withClasse
 use Rattle.equality_pairs.specs.Pairs.{EqualityPair, equalityPairs}
 use Rattle.equality_pairs.specs.NonNull.{nonNullMarks}
 use Rattle.edge_order.proofs.SortLaws.{sort-in, in-sort}
-use Rattle.join.specs.Edges.{EqualityEdge, edgeBetween, edgeOf, edgeBefore, equalityEdges}
-use Rattle.join.specs.Fold.{noEquality, withEdges}
-use Rattle.join.specs.Join.{foldedPairs}
+use Rattle.edge_fold.specs.Edges.{EqualityEdge, edgeBetween, edgeOf, edgeBefore, equalityEdges}
+use Rattle.edge_fold.specs.Fold.{noEquality, withEdges, foldedPairs}
 use Rattle.demand.specs.Claim.{_∈_, Columns, Equates, Fact, of-left, of-right, of-conjunct, Linked, no-step, step}
 use Rattle.demand.proofs.Kept.{Kept}
 use Rattle.demand.proofs.KeptLaws.{pairs-law}

@@ -17,7 +17,7 @@ use Rattle.records.specs.Classes.{ColumnEquivalenceClass, classHeadAt, classCol
 use Rattle.class_state.specs.Bytes.{classBytes, classesBytes}
 use Rattle.edge.specs.declared.LeftEqualityCoverage.{LeftEqualityCoverage}
 use Rattle.join.specs.Join.{JoinSelectivityEstimate}
-use Rattle.join.specs.Coverages.{coverageBytes, coveragesBytes}
+use Rattle.edge_fold.specs.Coverages.{coverageBytes, coveragesBytes}
 use Rattle.join_answer.specs.Join.{figuresBytes, joinBytes}
 use Rattle.demand.specs.Reader.{classesPlace, blockAt, behindClass, blocksFrom, behindClasses, blocks, coveragesPlace, nonNullPlace, columnIn, nonNulls}
 use Rattle.demand.specs.Claim.{_∈_, Columns}

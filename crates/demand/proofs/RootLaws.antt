@@ -13,8 +13,8 @@ use Rattle.estimate.specs.declared.Estimate.{Estimate}
 use Rattle.records.specs.Classes.{ColumnEquivalenceClass}
 use Rattle.sheet.specs.Sheet.{Sheet}
 use Rattle.class_state.specs.State.{ClassState, equivalent, moved, under, union, unionEach, overwritten, withColumns, withClasses}
-use Rattle.join.specs.Edges.{EqualityEdge}
-use Rattle.join.specs.Fold.{Folded, withEdge, withEdges}
+use Rattle.edge_fold.specs.Edges.{EqualityEdge}
+use Rattle.edge_fold.specs.Fold.{Folded, withEdge, withEdges}
 use Rattle.demand.specs.Claim.{_∈_, Columns, Linked, no-step, step}
 use Rattle.demand.proofs.ChainLaws.{trans, turned}
 

@@ -1,35 +1,21 @@
 -- What the parts of a join come to together. Assumes nothing.
 use Prim.Native.Nat.{ℕ}
 use mathlib.Core.Path.{_≡_, ap, _∙_, subst}
-use mathlib.Core.Bool.{Bool}
-use mathlib.Core.List.{List, []}
+use mathlib.Core.List.{List}
 use lib.Ieee.{Float}
 use Rattle.sheet.specs.Sheet.{sheetOf}
 use Rattle.sheet.specs.declared.Sections.{Sections}
-use Rattle.class_state.specs.State.{ClassState, fromProfiles, intoClasses}
+use Rattle.class_state.specs.State.{intoClasses}
 use Rattle.equality_pairs.specs.Pairs.{EqualityPair, equalityPairs}
 use Rattle.equality_pairs.specs.NonNull.{nonNullMarks, markedColumns}
-use Rattle.join.specs.Edges.{EqualityEdge, equalityEdges}
-use Rattle.join.specs.Fold.{Folded, noEquality, withEdges}
+use Rattle.edge_fold.specs.Fold.{foldedPairs}
 use Rattle.join.specs.Residual.{residualSelectivity}
-use Rattle.join.specs.Join.{JoinSelectivityEstimate, foldedPairs, joinSelectivity, firstMomentUpper, joinMatch, matchEstimate, selectivityEstimate, estimateOf, joinSelectivityFromConjuncts}
-use Rattle.join.specs.Held.{Holds, JoinHeld}
+use Rattle.join.specs.Join.{JoinSelectivityEstimate, joinSelectivity, firstMomentUpper, joinMatch, matchEstimate, selectivityEstimate, estimateOf, joinSelectivityFromConjuncts}
+use Rattle.edge_fold.specs.Held.{Holds}
+use Rattle.join.specs.Held.{JoinHeld}
 use Rattle.join.specs.declared.Joined.{Joined}
 use Rattle.join.specs.declared.figures.JoinFigures.{JoinFigures}
-use Rattle.join.specs.declared.fold.EqualityTotals.{EqualityTotals}
-use Rattle.join.specs.declared.fold.FoldedPairs.{FoldedPairs}
-
--- the edges of the profiles' classes, in their order, folded
-pub pairs-folded : (s : List ℕ) (q : Sections) (pairs : List EqualityPair) (classes : ClassState) (marks : List Bool) (edges : List EqualityEdge) (roots places : List ℕ) (totals : EqualityTotals) (out after : List ℕ)
-    → classes ≡ fromProfiles (sheetOf s q) → marks ≡ nonNullMarks pairs → edges ≡ equalityEdges (sheetOf s q) classes marks pairs
-    → Holds s q (withEdges (sheetOf s q) (record { classes = classes; figures = noEquality; coverages = [] }) edges) roots places totals out after
-    → Holds s q (foldedPairs (sheetOf s q) pairs) roots places totals out after
-unfolding foldedPairs
-pairs-folded s q pairs classes marks edges roots places totals out after c m e h =
-    subst (λ (state : Folded). Holds s q state roots places totals out after)
-    (ap (withEdges (sheetOf s q) (record { classes = classes; figures = noEquality; coverages = [] })) e
-    ∙ λ k. withEdges (sheetOf s q) (record { classes = c k; figures = noEquality; coverages = [] }) (equalityEdges (sheetOf s q) (c k) (m k) pairs))
-    h
+use Rattle.edge_fold.specs.declared.fold.FoldedPairs.{FoldedPairs}
 
 module _ (s : List ℕ) (q : Sections) (conjuncts : List ℕ) (pairs : List EqualityPair) (folded : FoldedPairs) (figures : JoinFigures) (rows residual : Float) (out after : List ℕ) where
   abbrev result : Joined

@@ -1,7 +1,2 @@
 pub mod ResidualLaws
-pub mod SideLaws
-pub mod CoverageLaws
-pub mod EdgeLaws
-pub mod FoldLaws
 pub mod JoinLaws
-pub mod CountLaws

@@ -1,7 +1,7 @@
 -- `join_selectivity_from_conjuncts_with_config` of the source's analysis.rs. The conjuncts are a list of their own, so that a join can be asked about others than the sheet's. Definitions only.
 use Prim.Native.Nat.{ℕ}
 use mathlib.Core.Bool.{cond}
-use mathlib.Core.List.{List, []}
+use mathlib.Core.List.{List}
 use lib.Ieee.{Float, binary64, mul}
 use Rattle.float.specs.Order.{f64Zero, f64One, f64Max, clampUnit}
 use Rattle.float.specs.Option.{some}
@@ -9,13 +9,12 @@ use Rattle.estimate.specs.Estimates.{derived}
 use Rattle.estimate.specs.declared.Estimate.{Estimate}
 use Rattle.records.specs.Classes.{ColumnEquivalenceClass}
 use Rattle.sheet.specs.Sheet.{Sheet}
-use Rattle.class_state.specs.State.{fromProfiles, intoClasses}
-use Rattle.equality_pairs.specs.Pairs.{EqualityPair, equalityPairs}
+use Rattle.class_state.specs.State.{intoClasses}
+use Rattle.equality_pairs.specs.Pairs.{equalityPairs}
 use Rattle.equality_pairs.specs.NonNull.{nonNullMarks, markedColumns}
 use Rattle.edge.specs.declared.LeftEqualityCoverage.{LeftEqualityCoverage}
-use Rattle.join.specs.Edges.{equalityEdges}
-use Rattle.join.specs.Fold.{Folded, noEquality, withEdges}
-use Rattle.join.specs.declared.fold.EqualityFigures.{EqualityFigures}
+use Rattle.edge_fold.specs.Fold.{Folded, foldedPairs}
+use Rattle.edge_fold.specs.declared.fold.EqualityFigures.{EqualityFigures}
 use Rattle.join.specs.Residual.{residualFrom, residualSelectivity, residualMatchProbability}
 
 pub record JoinSelectivityEstimate : Type 0 where
@@ -25,15 +24,6 @@ pub record JoinSelectivityEstimate : Type 0 where
   pub leftEqualityCoverages : List LeftEqualityCoverage
   pub residualSelectivity : Float
   pub nonNullEqualityColumns : List ℕ
-
--- ---- the equalities
-
--- the edges are ordered by the distincts of the profiles' classes, before any is taken up
-unfoldable pub foldedPairs : Sheet → List EqualityPair → Folded
-unfolding fromProfiles nonNullMarks equalityEdges withEdges
-foldedPairs sheet pairs =
-    let classes = fromProfiles sheet in
-    withEdges sheet (record { classes = classes; figures = noEquality; coverages = [] }) (equalityEdges sheet classes (nonNullMarks pairs) pairs)
 
 -- ---- the figures
 

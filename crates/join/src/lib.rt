@@ -3,22 +3,18 @@ ghost use Prim.Native.Nat.{_*_, _≤_};
 ghost use lib.ListN.{length};
 ghost use Rattle.sheet.specs.Sheet.{sheetOf};
 ghost use Rattle.join.specs.Join.{joinSelectivityFromConjuncts};
-ghost use Rattle.join.specs.Coverages.{coverageSize};
+ghost use Rattle.edge_fold.specs.Coverages.{coverageSize};
 ghost use Rattle.join.specs.Held.{JoinHeld};
+use edge_fold::fold::fold_pairs;
 use equality_pairs::pairs::put_pairs;
 use estimate::Estimate;
 use figures::join_figures;
-use fold::fold_pairs;
 use lookup::profiles::right_rows;
 use residual::residual_selectivity;
 use sheet::Sections;
 
-pub mod coverages;
-mod edges;
 mod figures;
-mod fold;
 mod residual;
-mod sides;
 
 // The source's JoinSelectivityEstimate: the classes as a state, the non-null columns as marks, and of
 // the coverages how many there are.

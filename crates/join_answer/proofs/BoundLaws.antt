@@ -15,10 +15,11 @@ use Rattle.class_state.proofs.SizeLaws.{classes-size, classes-size-below}
 use Rattle.equality_pairs.specs.Pairs.{EqualityPair, equalityPairs}
 use Rattle.equality_pairs.specs.NonNull.{nonNullMarks}
 use Rattle.equality_pairs.proofs.PairLaws.{pairs-length}
-use Rattle.join.specs.Coverages.{coverageSize, coveragesBytes}
-use Rattle.join.specs.Join.{JoinSelectivityEstimate, foldedPairs, estimateOf, joinSelectivityFromConjuncts}
-use Rattle.join.proofs.CoverageLaws.{coverages-length}
-use Rattle.join.proofs.CountLaws.{coverage-count}
+use Rattle.edge_fold.specs.Coverages.{coverageSize, coveragesBytes}
+use Rattle.edge_fold.specs.Fold.{foldedPairs}
+use Rattle.join.specs.Join.{JoinSelectivityEstimate, estimateOf, joinSelectivityFromConjuncts}
+use Rattle.edge_fold.proofs.CoverageLaws.{coverages-length}
+use Rattle.edge_fold.proofs.CountLaws.{coverage-count}
 use Rattle.join_answer.specs.Join.{figuresBytes, joinBytes, joinOf}
 use Rattle.join_answer.specs.Parts.{figuresPart}
 use Rattle.join_answer.proofs.JoinLaws.{marked-below, figures-length}

@@ -25,11 +25,11 @@ use Rattle.class_state.specs.Bytes.{classesBytes}
 use Rattle.class_state.specs.Sizes.{classesSize}
 use Rattle.class_state.proofs.SizeLaws.{classes-size}
 use Rattle.equality_pairs.specs.NonNull.{isMarked, markedColumns}
-use Rattle.join.specs.Coverages.{coverageSize, coveragesBytes}
+use Rattle.edge_fold.specs.Coverages.{coverageSize, coveragesBytes}
 use Rattle.join.specs.Join.{JoinSelectivityEstimate}
 use Rattle.join.specs.Held.{JoinHeld}
 use Rattle.join.specs.declared.Joined.{Joined}
-use Rattle.join.proofs.CoverageLaws.{coverages-length}
+use Rattle.edge_fold.proofs.CoverageLaws.{coverages-length}
 use Rattle.join_answer.specs.Join.{figuresBytes, joinBytes}
 use Rattle.join_answer.specs.Parts.{figuresPart, classesPart, coveragesPart, columnsPart, behindClasses, behindFigures, joinedBytes}
 

@@ -10,7 +10,7 @@ use Rattle.sheet.specs.Check.{check}
 use Rattle.sheet.specs.Sheet.{Sheet, sheetIn}
 use Rattle.class_state.specs.Bytes.{classesBytes}
 use Rattle.join.specs.Join.{JoinSelectivityEstimate, joinSelectivityFromConjuncts}
-use Rattle.join.specs.Coverages.{coveragesBytes}
+use Rattle.edge_fold.specs.Coverages.{coveragesBytes}
 use Rattle.answers.specs.Answers.{Result, bytes, sheetResult}
 
 unfoldable pub figuresBytes : JoinSelectivityEstimate → List ℕ

@@ -15,7 +15,7 @@ use Rattle.class_state.specs.State.{intoClasses}
 use Rattle.class_state.specs.Places.{stateOf}
 use Rattle.class_state.specs.Bytes.{classesBytes}
 use Rattle.equality_pairs.specs.NonNull.{markedColumns}
-use Rattle.join.specs.Coverages.{coverageSize}
+use Rattle.edge_fold.specs.Coverages.{coverageSize}
 use Rattle.join.specs.declared.Joined.{Joined}
 
 unfoldable pub figuresPart : Estimate → Estimate → Float → List ℕ

@@ -5,7 +5,7 @@ ghost use lib.ListN.{length};
 ghost use Rattle.sheet.specs.Sheet.{sheetOf};
 ghost use Rattle.class_state.specs.Sizes.{classesSize};
 ghost use Rattle.equality_pairs.specs.NonNull.{markedColumns};
-ghost use Rattle.join.specs.Coverages.{coverageSize};
+ghost use Rattle.edge_fold.specs.Coverages.{coverageSize};
 ghost use Rattle.join.specs.Join.{joinSelectivityFromConjuncts};
 ghost use Rattle.answers.specs.Answers.{bytes, answered, leaves};
 ghost use Rattle.join_answer.specs.Join.{joinBytes, joinOf, joinResult};

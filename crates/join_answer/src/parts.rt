@@ -8,7 +8,7 @@ ghost use Rattle.class_state.specs.State.{intoClasses};
 ghost use Rattle.class_state.specs.Places.{stateOf};
 ghost use Rattle.class_state.specs.Sizes.{classesSize};
 ghost use Rattle.equality_pairs.specs.NonNull.{markedColumns};
-ghost use Rattle.join.specs.Coverages.{coverageSize};
+ghost use Rattle.edge_fold.specs.Coverages.{coverageSize};
 ghost use Rattle.join_answer.specs.Parts.{figuresPart, classesPart, coveragesPart, columnsPart, behindClasses, behindFigures};
 use class_state::returned::class_count;
 use class_state::returned::put_classes;

@@ -7,7 +7,7 @@ use Rattle.lawful.specs.Lawful.{Each}
 use Rattle.class_state.specs.State.{ClassState, find, classDistinct}
 use Rattle.equality_pairs.specs.Pairs.{EqualityPair}
 use Rattle.edge_order.proofs.SortLaws.{sort-in}
-use Rattle.join.specs.Edges.{edgeBetween, edgeOf, edgeNullSafe, edgeBefore, equalityEdges}
+use Rattle.edge_fold.specs.Edges.{edgeBetween, edgeOf, edgeNullSafe, edgeBefore, equalityEdges}
 use Rattle.join_range.specs.Range.{EdgeInRange}
 use Rattle.join_range.proofs.EachLaws.{each-map}
 use Rattle.join_range.proofs.ClassRange.{LawfulState, max-lawful}

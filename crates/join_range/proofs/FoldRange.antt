@@ -12,11 +12,10 @@ use Rattle.equality_pairs.specs.NonNull.{nonNullMarks}
 use Rattle.edge.specs.declared.LeftCoverage.{LeftCoverage}
 use Rattle.edge.specs.declared.LeftCoverage.the-variants.{Absent as NoCoverage, Present as Coverage}
 use Rattle.edge.specs.declared.EqualityEdgeEstimate.{EqualityEdgeEstimate}
-use Rattle.join.specs.Sides.{connectsInputs}
-use Rattle.join.specs.Edges.{EqualityEdge, equalityEdges}
-use Rattle.join.specs.Fold.{noEquality, zeroed, multiplied, withEstimate, coverageOf, Folded, edgeEstimate, edgeFigures, edgeCoverages, withEdge, withEdges}
-use Rattle.join.specs.Join.{foldedPairs}
-use Rattle.join.specs.declared.fold.EqualityFigures.{EqualityFigures}
+use Rattle.edge_fold.specs.Sides.{connectsInputs}
+use Rattle.edge_fold.specs.Edges.{EqualityEdge, equalityEdges}
+use Rattle.edge_fold.specs.Fold.{noEquality, zeroed, multiplied, withEstimate, coverageOf, Folded, edgeEstimate, edgeFigures, edgeCoverages, withEdge, withEdges, foldedPairs}
+use Rattle.edge_fold.specs.declared.fold.EqualityFigures.{EqualityFigures}
 use Rattle.join_range.specs.Range.{EdgeInRange, CoverageInRange, LeftCoverageInRange, EdgeEstimateInRange}
 use Rattle.join_range.proofs.EachLaws.{each-none, each-more, each-first, each-rest, each-append}
 use Rattle.join_range.proofs.ClassRange.{LawfulState, union-lawful, profiles-lawful}

@@ -23,10 +23,10 @@ use Rattle.predicate_range.proofs.LeafRange.{from-zero, unit-bounded}
 use Rattle.class_state.specs.State.{fromProfiles}
 use Rattle.equality_pairs.specs.Pairs.{EqualityPair, equalityPairs}
 use Rattle.equality_pairs.specs.NonNull.{nonNullMarks, markedColumns}
-use Rattle.join.specs.Edges.{EqualityEdge, equalityEdges}
-use Rattle.join.specs.Fold.{Folded}
+use Rattle.edge_fold.specs.Edges.{EqualityEdge, equalityEdges}
+use Rattle.edge_fold.specs.Fold.{Folded, foldedPairs}
 use Rattle.join.specs.Residual.{residualMatchProbability, residualSelectivity}
-use Rattle.join.specs.Join.{foldedPairs, joinSelectivity, firstMomentUpper, joinMatch, matchEstimate, selectivityEstimate, estimateOf, joinSelectivityFromConjuncts}
+use Rattle.join.specs.Join.{joinSelectivity, firstMomentUpper, joinMatch, matchEstimate, selectivityEstimate, estimateOf, joinSelectivityFromConjuncts}
 use Rattle.join_range.specs.Range.{EdgeInRange, JoinInRange}
 use Rattle.join_range.proofs.ResidualRange.{residual-unit}
 use Rattle.join_range.proofs.ClassRange.{profiles-lawful, returned-lawful}

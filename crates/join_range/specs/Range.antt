@@ -14,7 +14,7 @@ use Rattle.edge.specs.declared.LeftEqualityCoverage.{LeftEqualityCoverage}
 use Rattle.edge.specs.declared.LeftCoverage.{LeftCoverage}
 use Rattle.edge.specs.declared.LeftCoverage.the-variants.{Absent as NoCoverage, Present as Coverage}
 use Rattle.edge.specs.declared.EqualityEdgeEstimate.{EqualityEdgeEstimate}
-use Rattle.join.specs.Edges.{EqualityEdge}
+use Rattle.edge_fold.specs.Edges.{EqualityEdge}
 use Rattle.join.specs.Join.{JoinSelectivityEstimate}
 
 -- ---- an edge: the distincts of its columns' classes, by the larger of which the edges are ordered, are ones that a sheet may hold

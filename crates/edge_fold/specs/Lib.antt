@@ -1,0 +1,5 @@
+pub mod Sides
+pub mod Edges
+pub mod Fold
+pub mod Coverages
+pub mod Held
