@@ -17,7 +17,8 @@ use Rattle.records.specs.Classes.{ColumnEquivalenceClass, classHeadAt, classCol
 use Rattle.class_state.specs.Bytes.{classBytes, classesBytes}
 use Rattle.edge.specs.declared.LeftEqualityCoverage.{LeftEqualityCoverage}
 use Rattle.join.specs.Join.{JoinSelectivityEstimate}
-use Rattle.edge_fold.specs.Coverages.{coverageBytes, coveragesBytes}
+use Rattle.edge_fold.specs.Coverages.{coveragesBytes}
+use Rattle.edge_fold.proofs.CoverageLaws.{coverages-length}
 use Rattle.join_answer.specs.Join.{figuresBytes, joinBytes}
 use Rattle.demand.specs.Reader.{classesPlace, blockAt, behindClass, blocksFrom, behindClasses, blocks, coveragesPlace, nonNullPlace, columnIn, nonNulls}
 use Rattle.demand.specs.Claim.{_∈_, Columns}
@@ -84,20 +85,6 @@ read-classes (class ∷ classes) s q at h e =
     let c = read-class class s (classesBytes classes ++ q) at (h class (List·Memᴰ·head refl)) (e ∙ append-assoc (classBytes class) (classesBytes classes) q) in
     let n = read-classes classes s q (behindClass s at) (λ (d : ColumnEquivalenceClass) (m : d ∈ classes). h d (List·Memᴰ·tail m)) (c .1) in
     (λ k. c .0 k ∷ n .0 k, n .1)
-
--- ---- coverages
-
-coverage-length : (c : LeftEqualityCoverage) → length (coverageBytes c) ≡ 43
-unfolding coverageBytes fieldBytes
-coverage-length c = refl
-
-coverages-length : (cs : List LeftEqualityCoverage) → length (coveragesBytes cs) ≡ 43 * length cs
-unfolding coveragesBytes
-coverages-length [] = refl
-coverages-length (c ∷ cs) = length-append (coverageBytes c) (coveragesBytes cs) ∙ sum (length (coverageBytes c)) (length (coveragesBytes cs)) (length cs) (coverage-length c) (coverages-length cs)
-  where
-    sum : (a b n : ℕ) → a ≡ 43 → b ≡ 43 * n → a + b ≡ 43 * suc n
-    sum a b n p q = omega arith
 
 -- ---- the answer
 

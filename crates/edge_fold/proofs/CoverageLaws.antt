@@ -10,19 +10,26 @@ use Rattle.float.specs.Integers.{bit}
 use Rattle.le.specs.Fields.{fieldBytes, u16Bytes, onto}
 use Rattle.le.specs.Floats.{f64Bytes}
 use Rattle.edge.specs.declared.LeftEqualityCoverage.{LeftEqualityCoverage}
-use Rattle.edge_fold.specs.Coverages.{coverageSize, coverageBytes, coveragesBytes, Appended}
+use Rattle.edge_fold.specs.Coverages.{coverageSize, coverageFigures, coverageBytes, coveragesBytes, Appended}
+
+-- what stands before the last byte
+pub front-length : (c : LeftEqualityCoverage) → length (u16Bytes (c .column) ++ coverageFigures c) ≡ 42
+unfolding coverageFigures fieldBytes
+front-length c = refl
 
 pub coverage-length : (c : LeftEqualityCoverage) → length (coverageBytes c) ≡ coverageSize
-unfolding coverageBytes fieldBytes
+unfolding coverageBytes coverageFigures fieldBytes
 coverage-length c = refl
 
--- the seven fields one after the other, as `put_coverage` puts them
-pub coverage-joined : (c : LeftEqualityCoverage) (ordinary : ℕ) → ordinary ≡ bit (c .«ordinary_non_null»)
-    → (((((u16Bytes (c .column) ++ f64Bytes (c .«input_distinct»)) ++ f64Bytes (c .«input_non_null_fraction»)) ++ f64Bytes (c .«intersection_distinct»)) ++ f64Bytes (c .«non_null_match_probability»)) ++ f64Bytes (c .«null_match_probability»)) ++ (ordinary ∷ [])
-    ≡ coverageBytes c
-unfolding coverageBytes fieldBytes
-coverage-joined c ordinary e = λ i.
-    (((((u16Bytes (c .column) ++ f64Bytes (c .«input_distinct»)) ++ f64Bytes (c .«input_non_null_fraction»)) ++ f64Bytes (c .«intersection_distinct»)) ++ f64Bytes (c .«non_null_match_probability»)) ++ f64Bytes (c .«null_match_probability»)) ++ (e i ∷ [])
+-- the fields one after the other, as the two functions put them
+pub figures-joined : (c : LeftEqualityCoverage)
+    → (((f64Bytes (c .«input_distinct») ++ f64Bytes (c .«input_non_null_fraction»)) ++ f64Bytes (c .«intersection_distinct»)) ++ f64Bytes (c .«non_null_match_probability»)) ++ f64Bytes (c .«null_match_probability») ≡ coverageFigures c
+unfolding coverageFigures fieldBytes
+figures-joined c = refl
+
+pub coverage-joined : (c : LeftEqualityCoverage) (ordinary : ℕ) → ordinary ≡ bit (c .«ordinary_non_null») → (u16Bytes (c .column) ++ coverageFigures c) ++ (ordinary ∷ []) ≡ coverageBytes c
+unfolding coverageBytes coverageFigures fieldBytes
+coverage-joined c ordinary e = λ i. (u16Bytes (c .column) ++ coverageFigures c) ++ (e i ∷ [])
 
 pub coverages-length : (cs : List LeftEqualityCoverage) → length (coveragesBytes cs) ≡ coverageSize * length cs
 unfolding coveragesBytes

@@ -12,16 +12,19 @@ use Rattle.edge.specs.declared.LeftEqualityCoverage.{LeftEqualityCoverage}
 abbrev pub coverageSize : ℕ
 coverageSize = 43
 
-unfoldable pub coverageBytes : LeftEqualityCoverage → List ℕ
+-- its five floats
+unfoldable pub coverageFigures : LeftEqualityCoverage → List ℕ
 unfolding fieldBytes
-coverageBytes c =
-    u16Bytes (c .column)
-    ++ (f64Bytes (c .«input_distinct»)
+coverageFigures c =
+    f64Bytes (c .«input_distinct»)
     ++ (f64Bytes (c .«input_non_null_fraction»)
     ++ (f64Bytes (c .«intersection_distinct»)
     ++ (f64Bytes (c .«non_null_match_probability»)
-    ++ (f64Bytes (c .«null_match_probability»)
-    ++ (bit (c .«ordinary_non_null») ∷ []))))))
+    ++ f64Bytes (c .«null_match_probability»))))
+
+unfoldable pub coverageBytes : LeftEqualityCoverage → List ℕ
+unfolding fieldBytes coverageFigures
+coverageBytes c = u16Bytes (c .column) ++ (coverageFigures c ++ (bit (c .«ordinary_non_null») ∷ []))
 
 -- one after the other
 unfoldable pub coveragesBytes : List LeftEqualityCoverage → List ℕ

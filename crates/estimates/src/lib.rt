@@ -1,18 +1,14 @@
 // The answers for planners, from a sheet's bytes into an output that the caller lends.
 ghost use mathlib.Core.Path.{_≡_};
 ghost use Rattle.answers.specs.Answers.{answered, leaves, Comes, answerNumber};
-ghost use Rattle.estimates.specs.Predicate.{predicateResult};
-ghost use Rattle.estimates.specs.Split.{splitResult};
+ghost use Rattle.expression_answer.specs.Predicate.{predicateResult};
+ghost use Rattle.expression_answer.specs.Split.{splitResult};
 ghost use Rattle.join_answer.specs.Join.{joinResult};
 use answers::Answer;
 use answers::answer_number;
 use expression_answer::Question;
 use expression_answer::answer_expression;
 use join_answer::answer_join;
-
-mod expression_answer;
-mod predicate_answer;
-mod split_answer;
 
 // The estimate of an expression as a predicate: 26 bytes.
 pub fn predicate(sheet: &[u8], expression: u16, out: &mut [u8]) -> Answer

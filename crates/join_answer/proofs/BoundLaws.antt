@@ -17,12 +17,12 @@ use Rattle.equality_pairs.specs.NonNull.{nonNullMarks}
 use Rattle.equality_pairs.proofs.PairLaws.{pairs-length}
 use Rattle.edge_fold.specs.Coverages.{coverageSize, coveragesBytes}
 use Rattle.edge_fold.specs.Fold.{foldedPairs}
+use Rattle.join_parts.specs.Parts.{figuresPart}
+use Rattle.join_parts.proofs.PartLaws.{marked-below, figures-length}
 use Rattle.join.specs.Join.{JoinSelectivityEstimate, estimateOf, joinSelectivityFromConjuncts}
 use Rattle.edge_fold.proofs.CoverageLaws.{coverages-length}
 use Rattle.edge_fold.proofs.CountLaws.{coverage-count}
 use Rattle.join_answer.specs.Join.{figuresBytes, joinBytes, joinOf}
-use Rattle.join_answer.specs.Parts.{figuresPart}
-use Rattle.join_answer.proofs.JoinLaws.{marked-below, figures-length}
 
 module _ (j : JoinSelectivityEstimate) where
   abbrev behindCoverages : List ℕ

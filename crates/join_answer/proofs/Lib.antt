@@ -1,4 +1,2 @@
-pub mod CopyLaws
-pub mod ConjunctLaws
 pub mod JoinLaws
 pub mod BoundLaws

@@ -1,36 +1,22 @@
 // The answer of a join.
 ghost use mathlib.Core.Path.{_≡_};
-ghost use Prim.Native.Nat.{_+_, _*_, _≤_};
+ghost use Prim.Native.Nat.{_*_, _≤_};
 ghost use lib.ListN.{length};
 ghost use Rattle.sheet.specs.Sheet.{sheetOf};
-ghost use Rattle.class_state.specs.Sizes.{classesSize};
-ghost use Rattle.equality_pairs.specs.NonNull.{markedColumns};
 ghost use Rattle.edge_fold.specs.Coverages.{coverageSize};
 ghost use Rattle.join.specs.Join.{joinSelectivityFromConjuncts};
 ghost use Rattle.answers.specs.Answers.{bytes, answered, leaves};
 ghost use Rattle.join_answer.specs.Join.{joinBytes, joinOf, joinResult};
-ghost use Rattle.join_answer.specs.Parts.{joinedBytes};
+ghost use Rattle.join_answer.specs.Joined.{joinedBytes};
 use answers::Answer;
-use class_state::returned::classes_size;
-use conjuncts::put_conjunct_numbers;
-use equality_pairs::marked::marked_count;
 use join::Joined;
 use join::join_selectivity_from_conjuncts;
-use parts::put_behind_figures;
-use parts::put_figures;
+use join_parts::conjuncts::put_conjunct_numbers;
+use join_parts::join_size;
+use join_parts::put_behind_figures;
+use join_parts::put_figures;
 use sheet::Checked;
 use sheet::Sections;
-
-mod conjuncts;
-mod parts;
-
-// How many bytes the answer has.
-fn join_size(roots: &[u8], coverages: usize, marks: &[bool]) -> usize
-    requires { ⌜ coverages ≤ 64 ⌝ }
-    ensures { λ r. ⌜ r ≡ 68 + classesSize (now (roots .entry)) + coverageSize * coverages + 2 * length (markedColumns (now (marks .entry))) ⌝ }
-{
-    68 + classes_size(roots) + 43 * coverages + 2 * marked_count(marks)
-}
 
 // The answer's bytes, where the output has room for them.
 fn write_joined(s: &[u8], q: Sections, joined: Joined, coverages: &[u8], out: &mut [u8]) -> Answer

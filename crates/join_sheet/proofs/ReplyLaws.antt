@@ -20,7 +20,7 @@ use Rattle.answers.specs.Answers.{Result, refusal, bytes, answered, leaves, Com
 use Rattle.answers.specs.declared.Answer.{Answer}
 use Rattle.answers.specs.declared.Answer.the-variants.{Refused, Written}
 use Rattle.join_answer.specs.Join.{joinBytes, joinOf, joinResult}
-use Rattle.join_answer.proofs.ConjunctLaws.{accepted-conjuncts}
+use Rattle.join_parts.proofs.ConjunctLaws.{accepted-conjuncts}
 use Rattle.join_answer.proofs.BoundLaws.{join-within}
 use Rattle.join_sheet.specs.Reply.{replyBytes}
 

@@ -6,8 +6,8 @@ use mathlib.Core.List.{List}
 use borrow.Author.Tests.{eq-eqb, ne-eqb}
 use lib.Dec.{eqb}
 use Rattle.le.specs.Fields.{byteAt}
+use Rattle.sheet_claims.proofs.PrefixLaws.{one-less, none-left}
 use Rattle.sheet_cases.specs.Entries.{sameBytes}
-use Rattle.sheet_cases.proofs.PrefixLaws.{one-less, none-left}
 
 module _ (out a : List ℕ) (at i : ℕ) (all : Bool) where
   split-off : (j : ℕ) → i ≡ suc j → sameBytes out a at i ≡ all → (eqb (byteAt out j) (byteAt a (at + j)) && sameBytes out a at j) ≡ all

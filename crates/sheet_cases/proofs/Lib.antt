@@ -1,4 +1,2 @@
-pub mod StoreLaws
-pub mod PrefixLaws
 pub mod EntryLaws
-pub mod PlaceLaws
+pub mod ClaimLaws

@@ -1,79 +1,13 @@
--- What a command of the list claims, in terms of `check` of the crate `sheet` and of the entries of `estimates`. Definitions only.
-use Prim.Native.Nat.{ℕ, zero, suc, _+_}
-use mathlib.Core.Bool.{Bool, true, false, not, cond, _&&_}
-use mathlib.Core.List.{List, [], _∷_}
+-- What a command of the list claims: of a sheet alone, or of an answer of `estimates`. Definitions only.
+use Prim.Native.Nat.{ℕ, _+_}
+use mathlib.Core.Bool.{Bool, cond, _&&_}
+use mathlib.Core.List.{List}
 use lib.Dec.{eqb, leb}
 use lib.ListN.{length, take}
-use Rattle.float.specs.Integers.{bit}
 use Rattle.le.specs.Fields.{byteAt, u16At, u32At}
-use Rattle.sheet.specs.Check.{check}
-use Rattle.sheet.specs.declared.Sections.{Sections}
-use Rattle.sheet.specs.declared.Checked.{Checked}
-use Rattle.sheet.specs.declared.Checked.the-variants.{Refused, Accepted}
+use Rattle.sheet_claims.specs.Claims.{unknown, oneCase, judgeStore, judgeRefused, judgeAccepted, judgePrefixes}
+use Rattle.sheet_claims.specs.declared.Verdict.{Verdict}
 use Rattle.sheet_cases.specs.Entries.{isPredicate, isSplit, isJoin}
-use Rattle.sheet_cases.specs.Stores.{storeFits}
-use Rattle.sheet_cases.specs.declared.claims.Verdict.{Verdict}
-
--- ---- one sheet
-
-abbrev pub refusedBy : Checked → ℕ → Bool
-refusedBy (Refused n) number = eqb n number
-refusedBy (Accepted q) number = false
-
-unfoldable pub isRefused : List ℕ → ℕ → Bool
-isRefused s number = refusedBy (check s) number
-
--- the places of the twelve sections, in their order
-unfoldable pub placesOf : Sections → List ℕ
-placesOf q =
-    q .rows ∷ q .settings ∷ q .sketches ∷ q .tables ∷ q .keys ∷ q .«left_columns» ∷ q .«right_columns»
-    ∷ q .«left_classes» ∷ q .«right_classes» ∷ q .expressions ∷ q .operands ∷ q .conjuncts ∷ []
-
--- the numbers are those that c has from a place on, two bytes each
-unfoldable pub samePlaces : List ℕ → List ℕ → ℕ → Bool
-samePlaces [] c at = true
-samePlaces (p ∷ ps) c at = cond (eqb p (u16At c at)) (samePlaces ps c (at + 2)) false
-
--- a command has the places behind its head
-abbrev pub acceptedAs : Checked → List ℕ → Bool
-acceptedAs (Refused n) c = false
-acceptedAs (Accepted q) c = samePlaces (placesOf q) c 8
-
-unfoldable pub isAccepted : List ℕ → List ℕ → Bool
-isAccepted s c = acceptedAs (check s) c
-
--- how many of the prefixes of 0 .. n - 1 bytes are not refused with the number
-unfoldable pub differingBelow : List ℕ → ℕ → ℕ → ℕ
-differingBelow s number zero = 0
-differingBelow s number (suc n) = bit (not (isRefused (take n s) number)) + differingBelow s number n
-
--- ---- a command: the line that counts it, its cases, and how many of them differ
-
-unfoldable pub unknown : Verdict
-unknown = record { line = 0; cases = 1; differ = 1 }
-
-unfoldable pub oneCase : ℕ → Bool → Verdict
-oneCase line agrees = record { line = line; cases = 1; differ = bit (not agrees) }
-
-unfoldable pub judgeStore : List ℕ → List ℕ → Verdict
-judgeStore s c = cond (storeFits s c) (oneCase 13 true) unknown
-
-unfoldable pub judgeRefused : List ℕ → List ℕ → Verdict
-judgeRefused s c =
-    cond (leb (u32At c 4) (length s) && (leb 1 (byteAt c 1) && leb (byteAt c 1) 10))
-    (oneCase (byteAt c 1) (isRefused (take (u32At c 4) s) (byteAt c 1)))
-    unknown
-
-unfoldable pub judgeAccepted : List ℕ → List ℕ → Verdict
-judgeAccepted s c =
-    cond (leb (u32At c 4) (length s)) (oneCase 11 (isAccepted (take (u32At c 4) s) c)) unknown
-
--- the prefixes of the first u32At c 4 bytes are prefixes of s
-unfoldable pub judgePrefixes : List ℕ → List ℕ → Verdict
-judgePrefixes s c =
-    cond (leb (u32At c 4) (length s))
-    (record { line = 12; cases = u32At c 4; differ = differingBelow s (byteAt c 1) (u32At c 4) })
-    unknown
 
 -- the sheet is the first u32At c 4 bytes of s, the answer the u32At c 12 bytes of a from u32At c 8 on
 unfoldable pub answerFits : List ℕ → List ℕ → List ℕ → Bool

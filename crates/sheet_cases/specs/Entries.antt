@@ -6,8 +6,8 @@ use lib.Dec.{eqb}
 use lib.ListN.{replicate}
 use Rattle.le.specs.Fields.{byteAt}
 use Rattle.answers.specs.Answers.{Result, answered, leaves}
-use Rattle.estimates.specs.Predicate.{predicateResult}
-use Rattle.estimates.specs.Split.{splitResult}
+use Rattle.expression_answer.specs.Predicate.{predicateResult}
+use Rattle.expression_answer.specs.Split.{splitResult}
 use Rattle.join_answer.specs.Join.{joinResult}
 use Rattle.answers.specs.declared.Answer.{Answer}
 use Rattle.answers.specs.declared.Answer.the-variants.{Refused, Written}

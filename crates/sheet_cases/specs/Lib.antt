@@ -1,4 +1,2 @@
-pub mod Stores
 pub mod Entries
 pub mod Claims
-pub mod Tallies

@@ -3,11 +3,11 @@
 // `rust/list` makes the list, and `tests/make_sheet_cases.py` describes its commands of 32 bytes.
 mod claims;
 mod entries;
-mod stores;
-mod tallies;
 
 use libc::STDIN_FILENO;
 use libc::STDOUT_FILENO;
+use sheet_claims::stores;
+use sheet_claims::tallies;
 
 // One command: its verdict on the two buffers as they stand, and then what it stores.
 fn replay_one(

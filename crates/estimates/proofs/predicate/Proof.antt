@@ -1,6 +1,6 @@
 -- The question's answer. Assumes nothing.
 use borrow.Author.Needs.{needs}
-use Rattle.estimates.specs.Predicate.{predicateResult}
+use Rattle.expression_answer.specs.Predicate.{predicateResult}
 use Rattle.estimates.proofs.predicate.Statement.{statement}
 use Rattle.estimates.proofs.predicate.Tie as tie
 

@@ -1,6 +1,6 @@
 -- The question's answer. Assumes nothing.
 use borrow.Author.Needs.{needs}
-use Rattle.estimates.specs.Split.{splitResult}
+use Rattle.expression_answer.specs.Split.{splitResult}
 use Rattle.estimates.proofs.split.Statement.{statement}
 use Rattle.estimates.proofs.split.Tie as tie
 

@@ -2,7 +2,7 @@
 use Rattle.sheet.specs.Sheet.{Sheet}
 use Rattle.answers.specs.Answers.{bytes}
 use Rattle.join_answer.specs.Join.{joinBytes, joinOf, joinResult}
-use Rattle.join_answer.proofs.ConjunctLaws.{accepted-conjuncts}
+use Rattle.join_parts.proofs.ConjunctLaws.{accepted-conjuncts}
 use Rattle.answers.proofs.AnswerLaws.{refused, sheet-refused, sheet-accepted, comes-as}
 use borrow.Author.Needs.{needs}
 use Rattle.join_answer.proofs.answer_join.Statement.{statement}

@@ -4,8 +4,9 @@ use mathlib.Core.Path.{refl, sym, _∙_}
 use mathlib.Core.Bool.{Bool}
 use native.Mathlib.Omega.{arith}
 use Rattle.le.proofs.OntoLaws.{onto-part}
-use Rattle.join_answer.specs.Parts.{joinedBytes}
-use Rattle.join_answer.proofs.JoinLaws.{figures-length, joined-length, figures-room}
+use Rattle.join_parts.proofs.PartLaws.{figures-length}
+use Rattle.join_answer.specs.Joined.{joinedBytes}
+use Rattle.join_answer.proofs.JoinLaws.{joined-length, figures-room}
 use Rattle.answers.proofs.AnswerLaws.{fitting, too-short}
 use borrow.Author.Needs.{needs, length-unmapped}
 use Rattle.join_answer.proofs.write_joined.Statement.{statement}

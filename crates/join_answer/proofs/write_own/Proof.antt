@@ -7,7 +7,7 @@ use Rattle.sheet.specs.Sheet.{sheetOf}
 use Rattle.join.specs.Join.{joinSelectivityFromConjuncts}
 use Rattle.answers.specs.Answers.{bytes}
 use Rattle.join_answer.specs.Join.{joinBytes}
-use Rattle.join_answer.proofs.CopyLaws.{copied-taken, copied-count}
+use Rattle.join_parts.proofs.CopyLaws.{copied-taken, copied-count}
 use Rattle.answers.proofs.AnswerLaws.{comes-as}
 use borrow.Author.Needs.{needs}
 use Rattle.join_answer.proofs.write_own.Statement.{statement}

@@ -1,7 +1,7 @@
 -- `judge_answer` meets its contract: each arm returns what `cond` picks. Assumes nothing.
 use mathlib.Core.Path.{sym, _∙_}
 use borrow.Author.Needs.{needs}
-use Rattle.sheet_cases.proofs.PrefixLaws.{whole-sheet}
+use Rattle.sheet_cases.proofs.ClaimLaws.{whole-sheet}
 use Rattle.sheet_cases.specs.Claims.{judgeAnswer}
 use Rattle.sheet_cases.proofs.claims.judge_answer.Statement.{statement}
 use Rattle.sheet_cases.proofs.claims.judge_answer.Tie as tie
