@@ -13,7 +13,7 @@ use lib.Seq.{getD-set-same, getD-set-other, ext-getD}
 use Rattle.le.specs.Fields.{u16At}
 use Rattle.estimate.specs.Bytes.{estimateAt}
 use Rattle.estimate.specs.declared.Estimate.{Estimate}
-use Rattle.records.specs.Lists.{tabulateFrom, tabulate}
+use Rattle.records.specs.Lists.{tabulateFrom, tabulate, itself}
 use Rattle.records.specs.Columns.{columnProfileAt}
 use Rattle.records.specs.declared.columns.ColumnProfile.{ColumnProfile}
 use Rattle.records.proofs.ListLaws.{tabulate-length, tabulate-at, tabulate-alike}
@@ -24,7 +24,7 @@ use Rattle.sheet.proofs.PlaceLaws.{columns-fixed, fixed-place}
 use Rattle.lookup.specs.Lookup.{profileIn, orElseProfile, leftProfile, rightProfile, profileAndRows}
 use Rattle.lookup.specs.declared.profiles.ProfileAndRows.{ProfileAndRows}
 use Rattle.lookup.specs.declared.profiles.ProfileAndRows.the-variants.{Absent, Present}
-use Rattle.class_state.specs.State.{ClassState, columnLimit, itself, unknownDistinct, ownDistinct, columnDistinct, apart}
+use Rattle.class_state.specs.State.{ClassState, columnLimit, unknownDistinct, ownDistinct, columnDistinct, apart}
 use Rattle.class_state.specs.Places.{distinctAt, stateOf}
 use Rattle.class_state.specs.Noted.{profilePlace, notedFrom, noted}
 use Rattle.class_state.proofs.DistinctLaws.{distinct-none, distinct-there}

@@ -6,5 +6,4 @@ pub mod ClassLaws
 pub mod ProfileLaws
 pub mod SizeLaws
 pub mod CountLaws
-pub mod FilledLaws
 pub mod ReturnedLaws

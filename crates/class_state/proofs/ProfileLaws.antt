@@ -3,12 +3,12 @@ use Prim.Native.Nat.{ℕ}
 use mathlib.Core.Path.{_≡_, ap, _∙_}
 use mathlib.Core.List.{List}
 use lib.ListN.{replicate}
-use Rattle.records.specs.Lists.{tabulate}
+use Rattle.records.specs.Lists.{tabulate, itself}
 use Rattle.records.specs.Classes.{classAt}
 use Rattle.sheet.specs.Sheet.{recordsIn, sheetOf}
 use Rattle.sheet.specs.declared.Sections.{Sections}
 use Rattle.sheet.specs.declared.order.Kind.the-variants.{Classes}
-use Rattle.class_state.specs.State.{ClassState, columnLimit, itself, withClasses, fromProfiles}
+use Rattle.class_state.specs.State.{ClassState, columnLimit, withClasses, fromProfiles}
 use Rattle.class_state.specs.Places.{stateOf}
 use Rattle.class_state.specs.Noted.{noted}
 use Rattle.class_state.proofs.ApartLaws.{apart-is}

@@ -6,7 +6,7 @@ use lib.Dec.{eqb, leb}
 use lib.ListN.{length, getD, set}
 use Rattle.estimate.specs.Estimates.{default, minByValue}
 use Rattle.estimate.specs.declared.Estimate.{Estimate}
-use Rattle.records.specs.Lists.{tabulateFrom, tabulate}
+use Rattle.records.specs.Lists.{tabulateFrom, tabulate, itself}
 use Rattle.records.specs.Classes.{ColumnEquivalenceClass}
 use Rattle.sheet.specs.Sheet.{Sheet}
 use Rattle.lookup.specs.Lookup.{profileAndRows}
@@ -69,9 +69,6 @@ ownDistinct sheet (Present profile rows) = profile .distinct
 
 abbrev pub columnDistinct : Sheet → ℕ → Estimate
 columnDistinct sheet column = ownDistinct sheet (profileAndRows sheet column)
-
-abbrev pub itself : ℕ → ℕ
-itself column = column
 
 -- every column alone
 unfoldable pub apart : Sheet → ClassState

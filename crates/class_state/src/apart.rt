@@ -1,7 +1,7 @@
 // Every column alone.
 ghost use mathlib.Core.Path.{_≡_};
-ghost use Rattle.records.specs.Lists.{tabulate};
-ghost use Rattle.class_state.specs.State.{columnLimit, itself};
+ghost use Rattle.records.specs.Lists.{tabulate, itself};
+ghost use Rattle.class_state.specs.State.{columnLimit};
 ghost use Rattle.class_state.specs.Noted.{noted};
 use crate::slots::set_place;
 use le::reads::u16_at;

@@ -3,7 +3,7 @@ use Prim.Native.Nat.{ℕ, zero, suc, _≤_, _<_}
 use mathlib.Core.Path.{_≡_, refl, sym, subst, _∙_}
 use mathlib.Core.Logic.{_↔_, _≢_}
 use mathlib.Core.Bool.{Bool}
-use mathlib.Core.List.{List, [], _∷_, map, map-map, List·Memᴰ·not-nil, Memᴰ·map, Memᴰ·of-map}
+use mathlib.Core.List.{List, [], _∷_, map, map-map, List·Memᴰ, List·Memᴰ·not-nil, Memᴰ·map, Memᴰ·of-map}
 use native.Mathlib.Omega.{arith}
 use borrow.Author.Tests.{eq-eqb, eqb-true, leb-true, le-leb}
 use lib.ListN.{length, getD, length-map}
@@ -19,7 +19,7 @@ use Rattle.join.specs.Join.{estimateOf, joinSelectivityFromConjuncts}
 use Rattle.edge_fold.proofs.CountLaws.{coverage-count}
 use Rattle.join_answer.specs.Join.{joinBytes, joinOf}
 use Rattle.demand.specs.Reader.{blocks, nonNulls}
-use Rattle.demand.specs.Claim.{_∈_, Columns, Fact, Linked, LeadsToOrdinary, Block, ShareBlock, OneJoin}
+use Rattle.demand.specs.Claim.{Columns, Fact, Linked, LeadsToOrdinary, Block, ShareBlock, OneJoin}
 use Rattle.demand.proofs.Kept.{Kept}
 use Rattle.demand.proofs.LinkLaws.{joinState, root-law, root-below, chain-below}
 use Rattle.demand.proofs.WalkLaws.{walk-law}
@@ -30,30 +30,30 @@ use Rattle.demand.proofs.ReadLaws.{Short, ShortJoin, columnsOf, blocks-
 selected-short : (test : ℕ → Bool) → Short (selected test 0 128)
 selected-short test = record {
   count = let h = selected-length test 0 128 in omega arith;
-  each = λ (n : ℕ) (m : n ∈ selected test 0 128). let h = selected-in test 0 128 n m .1 in omega arith;
+  each = λ (n : ℕ) (m : List·Memᴰ n (selected test 0 128)). let h = selected-in test 0 128 n m .1 in omega arith;
 }
 
 -- ---- the columns of a root
 
 module _ (roots : List ℕ) where
-  member-root : (root a : ℕ) → a ∈ members roots root → (a < 128) × (getD roots a 0 ≡ root)
+  member-root : (root a : ℕ) → List·Memᴰ a (members roots root) → (a < 128) × (getD roots a 0 ≡ root)
   unfolding members
   member-root root a m = let h = selected-in (hasRoot roots root) 0 128 a m in (h .1, eqb-true (getD roots a 0) root (h .2))
 
-  root-member : (root a : ℕ) → a < 128 → getD roots a 0 ≡ root → a ∈ members roots root
+  root-member : (root a : ℕ) → a < 128 → getD roots a 0 ≡ root → List·Memᴰ a (members roots root)
   unfolding members
   root-member root a h e = in-selected (hasRoot roots root) 0 128 a (omega arith) h (eq-eqb (getD roots a 0) root e)
 
-  two-columns : (root : ℕ) → root ∈ returnedRoots roots → (a : ℕ) × (b : ℕ) × (a ∈ members roots root) × (b ∈ members roots root) × (a ≢ b)
+  two-columns : (root : ℕ) → List·Memᴰ root (returnedRoots roots) → (a : ℕ) × (b : ℕ) × (List·Memᴰ a (members roots root)) × (List·Memᴰ b (members roots root)) × (a ≢ b)
   unfolding returnedRoots members
   two-columns root m = rising-two (members roots root) (selected-rising (hasRoot roots root) 0 128) (leb-true 2 (length (members roots root)) (selected-in (isReturned roots) 0 128 root m .2))
 
-  root-returned : (root a b : ℕ) → root < 128 → a ∈ members roots root → b ∈ members roots root → a ≢ b → root ∈ returnedRoots roots
+  root-returned : (root a b : ℕ) → root < 128 → List·Memᴰ a (members roots root) → List·Memᴰ b (members roots root) → a ≢ b → List·Memᴰ root (returnedRoots roots)
   unfolding returnedRoots
   root-returned root a b h p q n = in-selected (isReturned roots) 0 128 root (omega arith) h (le-leb 2 (length (members roots root)) (two-members (members roots root) a b p q n))
 
 -- a list that has an element stands within the lists
-listed-at : (f : ℕ → List ℕ) (l : List ℕ) (i a : ℕ) → a ∈ getD (map f l) i [] → (i < length l) × (a ∈ f (getD l i 0))
+listed-at : (f : ℕ → List ℕ) (l : List ℕ) (i a : ℕ) → List·Memᴰ a (getD (map f l) i []) → (i < length l) × (List·Memᴰ a (f (getD l i 0)))
 listed-at f [] i a m = absurd (List·Memᴰ·not-nil m)
 listed-at f (x ∷ l) zero a m = (first (length l), m)
   where
@@ -79,7 +79,7 @@ module _ (sheet : Sheet) (kept : Kept sheet) where
   abbrev columnsAt : ℕ → Columns
   columnsAt root = members (state .roots) root
 
-  class-short : (class : ColumnEquivalenceClass) → class ∈ intoClasses sheet state → Short (class .columns)
+  class-short : (class : ColumnEquivalenceClass) → List·Memᴰ class (intoClasses sheet state) → Short (class .columns)
   unfolding intoClasses members
   class-short class m =
       let r = Memᴰ·of-map (classAtRoot sheet state) returned m in
@@ -105,19 +105,19 @@ module _ (sheet : Sheet) (kept : Kept sheet) where
   unfolding joinSelectivityFromConjuncts estimateOf
   non-nulls-are = non-nulls-read (joinOf sheet) short
 
-  block-root : (k : Columns) → Block answer k → (root : ℕ) × (root ∈ returned) × (columnsAt root ≡ k)
-  block-root k m = Memᴰ·of-map columnsAt returned (subst (λ (K : List Columns). k ∈ K) blocks-are m)
+  block-root : (k : Columns) → Block answer k → (root : ℕ) × List·Memᴰ root returned × (columnsAt root ≡ k)
+  block-root k m = Memᴰ·of-map columnsAt returned (subst (λ (K : List Columns). List·Memᴰ k K) blocks-are m)
 
-  two : (k : Columns) → Block answer k → (a : ℕ) × (b : ℕ) × (a ∈ k) × (b ∈ k) × (a ≢ b)
+  two : (k : Columns) → Block answer k → (a : ℕ) × (b : ℕ) × List·Memᴰ a k × List·Memᴰ b k × (a ≢ b)
   two k m =
       let r = block-root k m in
-      subst (λ (l : Columns). (a : ℕ) × (b : ℕ) × (a ∈ l) × (b ∈ l) × (a ≢ b)) (r .2) (two-columns (state .roots) (r .0) (r .1))
+      subst (λ (l : Columns). (a : ℕ) × (b : ℕ) × List·Memᴰ a l × List·Memᴰ b l × (a ≢ b)) (r .2) (two-columns (state .roots) (r .0) (r .1))
 
-  apart : (i j a : ℕ) → a ∈ getD (blocks answer) i [] → a ∈ getD (blocks answer) j [] → i ≡ j
+  apart : (i j a : ℕ) → List·Memᴰ a (getD (blocks answer) i []) → List·Memᴰ a (getD (blocks answer) j []) → i ≡ j
   unfolding returnedRoots
   apart i j a p q =
-      let u = listed-at columnsAt returned i a (subst (λ (K : List Columns). a ∈ getD K i []) blocks-are p) in
-      let v = listed-at columnsAt returned j a (subst (λ (K : List Columns). a ∈ getD K j []) blocks-are q) in
+      let u = listed-at columnsAt returned i a (subst (λ (K : List Columns). List·Memᴰ a (getD K i [])) blocks-are p) in
+      let v = listed-at columnsAt returned j a (subst (λ (K : List Columns). List·Memᴰ a (getD K j [])) blocks-are q) in
       let e = member-root (state .roots) (getD returned i 0) a (u .1) .1 in
       let f = member-root (state .roots) (getD returned j 0) a (v .1) .1 in
       rising-once (selected-rising (isReturned (state .roots)) 0 128) i j (u .0) (v .0) (sym e ∙ f)
@@ -125,8 +125,8 @@ module _ (sheet : Sheet) (kept : Kept sheet) where
   linked : (a b : ℕ) → ShareBlock answer a b → Linked (Fact sheet) a b
   linked a b (k, m, p, q) =
       let r = block-root k m in
-      let u = member-root (state .roots) (r .0) a (subst (λ (l : Columns). a ∈ l) (sym (r .2)) p) in
-      let v = member-root (state .roots) (r .0) b (subst (λ (l : Columns). b ∈ l) (sym (r .2)) q) in
+      let u = member-root (state .roots) (r .0) a (subst (λ (l : Columns). List·Memᴰ a l) (sym (r .2)) p) in
+      let v = member-root (state .roots) (r .0) b (subst (λ (l : Columns). List·Memᴰ b l) (sym (r .2)) q) in
       root-law sheet kept a b (u .0) (v .0) .0 (u .1 ∙ sym (v .1))
 
   shared : (a b : ℕ) → a ≢ b → Linked (Fact sheet) a b → ShareBlock answer a b
@@ -135,12 +135,12 @@ module _ (sheet : Sheet) (kept : Kept sheet) where
       let p = root-member (state .roots) (find state a) a (h .0) refl in
       let q = root-member (state .roots) (find state a) b (h .1) (sym (root-law sheet kept a b (h .0) (h .1) .1 l)) in
       let r = root-returned (state .roots) (find state a) a b (root-below sheet kept a (h .0)) p q n in
-      (columnsAt (find state a), subst (λ (K : List Columns). columnsAt (find state a) ∈ K) (sym blocks-are) (Memᴰ·map columnsAt r), p, q)
+      (columnsAt (find state a), subst (λ (K : List Columns). List·Memᴰ (columnsAt (find state a)) K) (sym blocks-are) (Memᴰ·map columnsAt r), p, q)
 
   pub one-join : OneJoin sheet (joinBytes (joinOf sheet))
   one-join = record {
     two = two;
     apart = apart;
     share = λ (a b : ℕ) (n : a ≢ b). (linked a b, shared a b n);
-    nonNull = λ (a : ℕ). subst (λ (l : List ℕ). a ∈ l ↔ LeadsToOrdinary sheet a) (sym non-nulls-are) (walk-law sheet kept a);
+    nonNull = λ (a : ℕ). subst (λ (l : List ℕ). List·Memᴰ a l ↔ LeadsToOrdinary sheet a) (sym non-nulls-are) (walk-law sheet kept a);
   }

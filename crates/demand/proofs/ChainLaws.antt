@@ -1,8 +1,9 @@
 -- Laws of chains: they can be put together and turned, and go over into other facts if each of their steps does. Assumes nothing.
 use Prim.Native.Nat.{ℕ}
 use mathlib.Core.Path.{_≡_, refl, sym, subst}
+use mathlib.Core.List.{List·Memᴰ}
 use native.Mathlib.Decide.{ℕ-discrete}
-use Rattle.demand.specs.Claim.{_∈_, Columns, Within, Together, Linked, no-step, step, Follows, AllFollow}
+use Rattle.demand.specs.Claim.{Columns, Within, Together, Linked, no-step, step, Follows, AllFollow}
 
 pub trans : {F : Columns → Type 0} {a b c : ℕ} → Linked F a b → Linked F b c → Linked F a c
 trans {F} {c = c} (no-step e) h = subst (λ (x : ℕ). Linked F x c) (sym e) h
@@ -21,7 +22,7 @@ carried h (no-step e) = no-step e
 carried h (step {a = a} {b = b} t l) = trans (h a b t) (carried h l)
 
 -- two columns of a set that follows are linked, different or not
-followed : {G : Columns → Type 0} (f : Columns) → Follows G f → (a b : ℕ) → a ∈ f → b ∈ f → Linked G a b
+followed : {G : Columns → Type 0} (f : Columns) → Follows G f → (a b : ℕ) → List·Memᴰ a f → List·Memᴰ b f → Linked G a b
 followed {G} f h a b p q = decided (ℕ-discrete a b)
   where
     decided : Dec (a ≡ b) → Linked G a b

@@ -1,41 +1,35 @@
 -- That the join's equality pairs are the equating conjuncts of the claim, and that every accepted sheet is `Kept`, whatever its numbers. Assumes nothing.
-use Prim.Native.Nat.{ℕ, zero, suc, _≤_, _<_}
+use Prim.Native.Nat.{ℕ, zero, suc, _<_}
 use mathlib.Core.Path.{_≡_, refl, sym, ap, subst}
 use mathlib.Core.Logic.{_↔_, ⊎-elim}
 use mathlib.Core.Bool.{Bool, true, false}
-use mathlib.Core.List.{List, [], _∷_, List·Memᴰ·head, List·Memᴰ·tail, List·Memᴰ·cases-cons, List·Memᴰ·not-nil, List·Memᴰ·eq-of-singleton, List·Memᴰ·append-cases, Memᴰ·append-left, Memᴰ·append-right}
+use mathlib.Core.List.{List, [], _∷_, List·Memᴰ, List·Memᴰ·head, List·Memᴰ·tail, List·Memᴰ·cases-cons, List·Memᴰ·not-nil, List·Memᴰ·eq-of-singleton, List·Memᴰ·append-cases, Memᴰ·append-left, Memᴰ·append-right}
 use native.Mathlib.Omega.{arith}
-use lib.ListN.{length, getD}
-use lib.Dec.{leb}
-use borrow.Author.Tests.{leb-true}
-use Rattle.le.specs.Fields.{byteAt, u16At}
-use Rattle.rules.proofs.RuleLaws.{ask-kept, else-first, else-second}
-use Rattle.records.specs.Classes.{classAt}
+use lib.ListN.{getD}
+use Rattle.le.specs.Fields.{byteAt}
 use Rattle.records.specs.Expressions.{expressionAt}
 use Rattle.records.specs.declared.expressions.BinaryOp.{BinaryOp}
 use Rattle.records.specs.declared.expressions.BinaryOp.the-variants.{Eq, IsNotDistinctFrom, NotEq, Lt, LtEq, Gt, GtEq, Add, Subtract, Multiply, Divide}
 use Rattle.records.specs.declared.expressions.Expression.{Expression}
 use Rattle.records.specs.declared.expressions.Expression.the-variants.{Literal, ColumnRef, Unary, Binary, Nary, Like, Other}
-use Rattle.record_rules.specs.Fields.{whole}
 use Rattle.expression_rules.specs.Expressions.{expressionRefusal}
 use Rattle.expression_rules.proofs.RoomLaws.{column-ref-below}
 use Rattle.sheet.specs.Order.{sectionAt}
-use Rattle.sheet.specs.Rules.{countWithin, countRefusal, recordRefusal}
+use Rattle.sheet.specs.Rules.{recordRefusal}
 use Rattle.sheet.specs.Check.{sheetRefusal}
 use Rattle.sheet.specs.Sheet.{Sheet, recordsIn, sheetIn}
-use Rattle.sheet.specs.declared.order.Kind.the-variants.{Classes, Expressions, Conjuncts}
-use Rattle.sheet.proofs.AcceptedLaws.{accepted-count, accepted-record}
-use Rattle.sheet.proofs.SheetLaws.{records-length}
-use Rattle.lawful.specs.Lawful.{Each, LawfulClass}
+use Rattle.sheet.specs.declared.order.Kind.the-variants.{Expressions}
+use Rattle.sheet.proofs.AcceptedLaws.{accepted-record}
+use Rattle.lawful.specs.Lawful.{Each}
 use Rattle.lawful.proofs.EachLaws.{each-record}
-use Rattle.lawful.proofs.ClassLaws.{class-lawful}
 use Rattle.lawful.proofs.ExpressionLaws.{by-test}
+use Rattle.lawful.proofs.LawfulLaws.{left-classes, right-classes, conjunct-count}
 use Rattle.lookup.specs.Lookup.{expressionOf}
 use Rattle.parts.specs.Parts.{columnRef, isNullSafe, bothColumns, columnEqualityFromParts, equalityIn, columnEquality}
 use Rattle.parts.specs.declared.OptionColumn.{OptionColumn}
 use Rattle.parts.specs.declared.OptionColumn.the-variants.{Absent, Present}
 use Rattle.equality_pairs.specs.Pairs.{EqualityPair, nullSafeIn, pairOf, equalityPair, equalityPairs}
-use Rattle.demand.specs.Claim.{_∈_, opOf, Equates}
+use Rattle.demand.specs.Claim.{opOf, Equates}
 use Rattle.demand.proofs.Kept.{Kept}
 
 -- ---- the pairs are the equating conjuncts
@@ -52,7 +46,7 @@ record Reads (sheet : Sheet) (x : Expression) (p : EqualityPair) : Type 0 where
 abbrev Parts : BinaryOp → Expression → Expression → EqualityPair → Type 0
 Parts op l r p = (op ≡ opOf (p .nullSafe)) × (l ≡ ColumnRef (p .left)) × (r ≡ ColumnRef (p .right))
 
-columns-read : (nullSafe : Bool) (l r : Expression) (p : EqualityPair) → p ∈ pairOf nullSafe (bothColumns (columnRef l) (columnRef r)) → Parts (opOf nullSafe) l r p
+columns-read : (nullSafe : Bool) (l r : Expression) (p : EqualityPair) → List·Memᴰ p (pairOf nullSafe (bothColumns (columnRef l) (columnRef r))) → Parts (opOf nullSafe) l r p
 columns-read nullSafe (Literal value) r p m = absurd (List·Memᴰ·not-nil m)
 columns-read nullSafe (Unary op expr) r p m = absurd (List·Memᴰ·not-nil m)
 columns-read nullSafe (Binary op left right) r p m = absurd (List·Memᴰ·not-nil m)
@@ -69,7 +63,7 @@ columns-read nullSafe (ColumnRef a) (ColumnRef b) p m =
     let e : record { left = a; right = b; nullSafe = nullSafe } ≡ p = sym (List·Memᴰ·eq-of-singleton m) in
     (ap (λ (q : EqualityPair). opOf (q .nullSafe)) e, ap (λ (q : EqualityPair). ColumnRef (q .left)) e, ap (λ (q : EqualityPair). ColumnRef (q .right)) e)
 
-parts-read : (op : BinaryOp) (l r : Expression) (p : EqualityPair) → p ∈ pairOf (isNullSafe op) (columnEqualityFromParts op l r) → Parts op l r p
+parts-read : (op : BinaryOp) (l r : Expression) (p : EqualityPair) → List·Memᴰ p (pairOf (isNullSafe op) (columnEqualityFromParts op l r)) → Parts op l r p
 unfolding columnEqualityFromParts
 parts-read Eq l r p m = columns-read false l r p m
 parts-read IsNotDistinctFrom l r p m = columns-read true l r p m
@@ -83,7 +77,7 @@ parts-read Subtract l r p m = absurd (List·Memᴰ·not-nil m)
 parts-read Multiply l r p m = absurd (List·Memᴰ·not-nil m)
 parts-read Divide l r p m = absurd (List·Memᴰ·not-nil m)
 
-equality-read : (sheet : Sheet) (x : Expression) (p : EqualityPair) → p ∈ pairOf (nullSafeIn x) (equalityIn sheet x) → Reads sheet x p
+equality-read : (sheet : Sheet) (x : Expression) (p : EqualityPair) → List·Memᴰ p (pairOf (nullSafeIn x) (equalityIn sheet x)) → Reads sheet x p
 equality-read sheet (Literal value) p m = absurd (List·Memᴰ·not-nil m)
 equality-read sheet (ColumnRef column) p m = absurd (List·Memᴰ·not-nil m)
 equality-read sheet (Unary op expr) p m = absurd (List·Memᴰ·not-nil m)
@@ -94,36 +88,36 @@ equality-read sheet (Binary op left right) p m =
     let h = parts-read op (expressionOf sheet left) (expressionOf sheet right) p m in
     record { left = left; right = right; binary = ap (λ (o : BinaryOp). Binary o left right) (h .0); leftColumn = h .1; rightColumn = h .2 }
 
-parts-given : (p : EqualityPair) (op : BinaryOp) (l r : Expression) → Parts op l r p → p ∈ pairOf (isNullSafe op) (columnEqualityFromParts op l r)
+parts-given : (p : EqualityPair) (op : BinaryOp) (l r : Expression) → Parts op l r p → List·Memᴰ p (pairOf (isNullSafe op) (columnEqualityFromParts op l r))
 unfolding columnEqualityFromParts
 parts-given p op l r (e, f, g) = rw (e, f, g) (given (p .nullSafe))
   where
-    given : (t : Bool) → record { left = p .left; right = p .right; nullSafe = t } ∈ pairOf (isNullSafe (opOf t)) (columnEqualityFromParts (opOf t) (ColumnRef (p .left)) (ColumnRef (p .right)))
+    given : (t : Bool) → List·Memᴰ (record { left = p .left; right = p .right; nullSafe = t }) (pairOf (isNullSafe (opOf t)) (columnEqualityFromParts (opOf t) (ColumnRef (p .left)) (ColumnRef (p .right))))
     given true = List·Memᴰ·head refl
     given false = List·Memᴰ·head refl
 
-equality-given : (sheet : Sheet) (x : Expression) (p : EqualityPair) → Reads sheet x p → p ∈ pairOf (nullSafeIn x) (equalityIn sheet x)
+equality-given : (sheet : Sheet) (x : Expression) (p : EqualityPair) → Reads sheet x p → List·Memᴰ p (pairOf (nullSafeIn x) (equalityIn sheet x))
 equality-given sheet x p h =
-    subst (λ (y : Expression). p ∈ pairOf (nullSafeIn y) (equalityIn sheet y)) (sym (h .binary))
+    subst (λ (y : Expression). List·Memᴰ p (pairOf (nullSafeIn y) (equalityIn sheet y))) (sym (h .binary))
     (parts-given p (opOf (p .nullSafe)) (expressionOf sheet (h .left)) (expressionOf sheet (h .right)) (refl, h .leftColumn, h .rightColumn))
 
-pair-from : (sheet : Sheet) (es : List ℕ) (p : EqualityPair) → p ∈ equalityPairs sheet es → (e : ℕ) × (e ∈ es) × Reads sheet (expressionOf sheet e) p
+pair-from : (sheet : Sheet) (es : List ℕ) (p : EqualityPair) → List·Memᴰ p (equalityPairs sheet es) → (e : ℕ) × List·Memᴰ e es × Reads sheet (expressionOf sheet e) p
 unfolding equalityPairs equalityPair columnEquality
 pair-from sheet [] p m = absurd (List·Memᴰ·not-nil m)
 pair-from sheet (e ∷ es) p m =
-    ⊎-elim (λ (k : p ∈ equalityPair sheet e). (e, List·Memᴰ·head refl, equality-read sheet (expressionOf sheet e) p k))
-    (λ (k : p ∈ equalityPairs sheet es). let r = pair-from sheet es p k in (r .0, List·Memᴰ·tail (r .1), r .2))
+    ⊎-elim (λ (k : List·Memᴰ p (equalityPair sheet e)). (e, List·Memᴰ·head refl, equality-read sheet (expressionOf sheet e) p k))
+    (λ (k : List·Memᴰ p (equalityPairs sheet es)). let r = pair-from sheet es p k in (r .0, List·Memᴰ·tail (r .1), r .2))
     (List·Memᴰ·append-cases (equalityPair sheet e) m)
 
-pair-to : (sheet : Sheet) (es : List ℕ) (p : EqualityPair) (e : ℕ) → e ∈ es → Reads sheet (expressionOf sheet e) p → p ∈ equalityPairs sheet es
+pair-to : (sheet : Sheet) (es : List ℕ) (p : EqualityPair) (e : ℕ) → List·Memᴰ e es → Reads sheet (expressionOf sheet e) p → List·Memᴰ p (equalityPairs sheet es)
 unfolding equalityPairs equalityPair columnEquality
 pair-to sheet [] p e m h = absurd (List·Memᴰ·not-nil m)
 pair-to sheet (d ∷ es) p e m h =
-    ⊎-elim (λ (q : e ≡ d). Memᴰ·append-left (equalityPairs sheet es) (subst (λ (c : ℕ). p ∈ equalityPair sheet c) q (equality-given sheet (expressionOf sheet e) p h)))
-    (λ (k : e ∈ es). Memᴰ·append-right (equalityPair sheet d) (pair-to sheet es p e k h))
+    ⊎-elim (λ (q : e ≡ d). Memᴰ·append-left (equalityPairs sheet es) (subst (λ (c : ℕ). List·Memᴰ p (equalityPair sheet c)) q (equality-given sheet (expressionOf sheet e) p h)))
+    (λ (k : List·Memᴰ e es). Memᴰ·append-right (equalityPair sheet d) (pair-to sheet es p e k h))
     (List·Memᴰ·cases-cons m)
 
-pub pairs-law : (sheet : Sheet) (p : EqualityPair) → p ∈ equalityPairs sheet (sheet .conjuncts) ↔ Equates sheet (p .left) (p .right) (p .nullSafe)
+pub pairs-law : (sheet : Sheet) (p : EqualityPair) → List·Memᴰ p (equalityPairs sheet (sheet .conjuncts)) ↔ Equates sheet (p .left) (p .right) (p .nullSafe)
 pairs-law sheet p = (
   λ m. let r = pair-from sheet (sheet .conjuncts) p m in record { conjunct = r .0; stands = r .1; left = r .2 .left; right = r .2 .right; binary = r .2 .binary; leftColumn = r .2 .leftColumn; rightColumn = r .2 .rightColumn },
   λ h. pair-to sheet (sheet .conjuncts) p (h .conjunct) (h .stands) record { left = h .left; right = h .right; binary = h .binary; leftColumn = h .leftColumn; rightColumn = h .rightColumn },
@@ -157,14 +151,6 @@ each-or P (x ∷ xs) d h p zero = h x (List·Memᴰ·head refl)
 each-or P (x ∷ xs) d h p (suc i) = each-or P xs d (λ y m. h y (List·Memᴰ·tail m)) p i
 
 module _ (s : List ℕ) (accepted : sheetRefusal s ≡ 0) where
-  left-classes : Each LawfulClass (recordsIn Classes classAt s (sectionAt s 7))
-  unfolding recordRefusal
-  left-classes = each-record LawfulClass Classes classAt s (sectionAt s 7) (λ i l. class-lawful s _ (accepted-record s accepted 7 (omega arith) i l))
-
-  right-classes : Each LawfulClass (recordsIn Classes classAt s (sectionAt s 8))
-  unfolding recordRefusal
-  right-classes = each-record LawfulClass Classes classAt s (sectionAt s 8) (λ i l. class-lawful s _ (accepted-record s accepted 8 (omega arith) i l))
-
   expressions : Each ColumnBelow (recordsIn Expressions expressionAt s (sectionAt s 9))
   unfolding recordRefusal
   expressions = each-record ColumnBelow Expressions expressionAt s (sectionAt s 9) (λ i l. expression-below s _ i _ (accepted-record s accepted 9 (omega arith) i l))
@@ -173,18 +159,11 @@ module _ (s : List ℕ) (accepted : sheetRefusal s ≡ 0) where
   unfolding sheetIn
   column-below e column q = subst ColumnBelow q (each-or ColumnBelow (recordsIn Expressions expressionAt s (sectionAt s 9)) Other expressions tt e)
 
-  conjunct-count : length (recordsIn Conjuncts u16At s (sectionAt s 11)) ≤ 64
-  unfolding countRefusal countWithin
-  conjunct-count =
-      let n : ℕ = u16At s (sectionAt s 11) in
-      let within = else-first _ _ (else-second (whole 2 s (sectionAt s 11)) _ (accepted-count s accepted 11 (omega arith))) in
-      subst (λ (m : ℕ). m ≤ 64) (sym (records-length Conjuncts u16At s (sectionAt s 11))) (leb-true n 64 (ask-kept (leb n 64) 3 (omega arith) within))
-
   pub kept : Kept (sheetIn s)
   unfolding sheetIn
   kept = record {
-    left = λ class c m h. left-classes class m .columns c h;
-    right = λ class c m h. right-classes class m .columns c h;
+    left = λ class c m h. left-classes s accepted class m .columns c h;
+    right = λ class c m h. right-classes s accepted class m .columns c h;
     equated = λ first second nullSafe h. (column-below (h .left) first (h .leftColumn), column-below (h .right) second (h .rightColumn));
-    conjunctCount = conjunct-count;
+    conjunctCount = conjunct-count s accepted;
   }

@@ -3,17 +3,18 @@ use Prim.Native.Nat.{ℕ, _<_}
 use mathlib.Core.Path.{_≡_, refl, sym, subst, _∙_, ap}
 use mathlib.Core.Logic.{_↔_, _≢_, ⊎-elim}
 use mathlib.Core.Bool.{Bool}
-use mathlib.Core.List.{List, [], _∷_, _++_, map, List·Memᴰ·head, List·Memᴰ·tail, List·Memᴰ·cases-cons, List·Memᴰ·eq-of-singleton, List·Memᴰ·append-cases, Memᴰ·append-left, Memᴰ·append-right, Memᴰ·map, Memᴰ·of-map}
+use mathlib.Core.List.{List, [], _∷_, _++_, map, List·Memᴰ, List·Memᴰ·head, List·Memᴰ·tail, List·Memᴰ·cases-cons, List·Memᴰ·eq-of-singleton, List·Memᴰ·append-cases, Memᴰ·append-left, Memᴰ·append-right, Memᴰ·map, Memᴰ·of-map}
 use lib.ListN.{length}
 use Rattle.records.proofs.ListLaws.{tabulate-length, tabulate-at}
 use Rattle.sheet.specs.Sheet.{Sheet}
-use Rattle.class_state.specs.State.{ClassState, find, itself, apart, withClasses, fromProfiles}
+use Rattle.records.specs.Lists.{itself}
+use Rattle.class_state.specs.State.{ClassState, find, apart, withClasses, fromProfiles}
 use Rattle.equality_pairs.specs.Pairs.{EqualityPair, equalityPairs}
 use Rattle.equality_pairs.specs.NonNull.{nonNullMarks}
 use Rattle.edge_order.proofs.SortLaws.{sort-in, in-sort}
 use Rattle.edge_fold.specs.Edges.{EqualityEdge, edgeBetween, edgeOf, edgeBefore, equalityEdges}
 use Rattle.edge_fold.specs.Fold.{noEquality, withEdges, foldedPairs}
-use Rattle.demand.specs.Claim.{_∈_, Columns, Equates, Fact, of-left, of-right, of-conjunct, Linked, no-step, step}
+use Rattle.demand.specs.Claim.{Columns, Equates, Fact, of-left, of-right, of-conjunct, Linked, no-step, step}
 use Rattle.demand.proofs.Kept.{Kept}
 use Rattle.demand.proofs.KeptLaws.{pairs-law}
 use Rattle.demand.proofs.ChainLaws.{one-step, turned}
@@ -21,18 +22,18 @@ use Rattle.demand.proofs.RootLaws.{rootOf, Sound, Two, joinedAll, Agree
 
 -- ---- columns are below 128
 
-of-two : (P : ℕ → Type 0) (first second : ℕ) → P first → P second → (a : ℕ) → a ∈ first ∷ second ∷ [] → P a
+of-two : (P : ℕ → Type 0) (first second : ℕ) → P first → P second → (a : ℕ) → List·Memᴰ a (first ∷ second ∷ []) → P a
 of-two P first second p q a m =
     ⊎-elim (λ (e : a ≡ first). subst P (sym e) p)
-    (λ (n : a ∈ second ∷ []). subst P (sym (List·Memᴰ·eq-of-singleton n)) q)
+    (λ (n : List·Memᴰ a (second ∷ [])). subst P (sym (List·Memᴰ·eq-of-singleton n)) q)
     (List·Memᴰ·cases-cons m)
 
-fact-below : (sheet : Sheet) → Kept sheet → (f : Columns) (a : ℕ) → Fact sheet f → a ∈ f → a < 128
-fact-below sheet kept f a (of-left class n e) m = kept .left class a n (subst (λ (l : Columns). a ∈ l) (sym e) m)
-fact-below sheet kept f a (of-right class n e) m = kept .right class a n (subst (λ (l : Columns). a ∈ l) (sym e) m)
+fact-below : (sheet : Sheet) → Kept sheet → (f : Columns) (a : ℕ) → Fact sheet f → List·Memᴰ a f → a < 128
+fact-below sheet kept f a (of-left class n e) m = kept .left class a n (subst (λ (l : Columns). List·Memᴰ a l) (sym e) m)
+fact-below sheet kept f a (of-right class n e) m = kept .right class a n (subst (λ (l : Columns). List·Memᴰ a l) (sym e) m)
 fact-below sheet kept f a (of-conjunct first second nullSafe n e) m =
     let h = kept .equated first second nullSafe n in
-    of-two (λ (c : ℕ). c < 128) first second (h .0) (h .1) a (subst (λ (l : Columns). a ∈ l) (sym e) m)
+    of-two (λ (c : ℕ). c < 128) first second (h .0) (h .1) a (subst (λ (l : Columns). List·Memᴰ a l) (sym e) m)
 
 begins-below : (sheet : Sheet) → Kept sheet → {a b : ℕ} → Linked (Fact sheet) a b → a ≢ b → a < 128
 begins-below sheet kept (no-step e) n = absurd (n e)
@@ -85,7 +86,7 @@ module _ (sheet : Sheet) where
   unfolding edgeFor edgeOf edgeBetween
   edge-ends pair = refl
 
-  edge-from : (p : Two) → p ∈ map ends edges → (pair : EqualityPair) × Equates sheet (pair .left) (pair .right) (pair .nullSafe) × ((pair .left, pair .right) ≡ p)
+  edge-from : (p : Two) → List·Memᴰ p (map ends edges) → (pair : EqualityPair) × Equates sheet (pair .left) (pair .right) (pair .nullSafe) × ((pair .left, pair .right) ≡ p)
   unfolding edges edgeFor equalityEdges
   edge-from p m =
       let e = Memᴰ·of-map ends edges m in
@@ -93,58 +94,58 @@ module _ (sheet : Sheet) where
       let r = Memᴰ·of-map edgeFor pairs (sort-in edgeBefore (map edgeFor pairs) (e .0) (e .1)) in
       (r .0, pairs-law sheet (r .0) .0 (r .1), sym (edge-ends (r .0)) ∙ ap ends (r .2) ∙ e .2)
 
-  edge-to : (first second : ℕ) (nullSafe : Bool) → Equates sheet first second nullSafe → (first, second) ∈ map ends edges
+  edge-to : (first second : ℕ) (nullSafe : Bool) → Equates sheet first second nullSafe → List·Memᴰ (first, second) (map ends edges)
   unfolding edges edgeFor equalityEdges
   edge-to first second nullSafe h =
       let pair : EqualityPair = record { left = first; right = second; nullSafe = nullSafe } in
       let pairs = equalityPairs sheet (sheet .conjuncts) in
-      subst (λ (p : Two). p ∈ map ends edges) (edge-ends pair) (Memᴰ·map ends (in-sort edgeBefore (map edgeFor pairs) (edgeFor pair) (Memᴰ·map edgeFor (pairs-law sheet pair .1 h))))
+      subst (λ (p : Two). List·Memᴰ p (map ends edges)) (edge-ends pair) (Memᴰ·map ends (in-sort edgeBefore (map edgeFor pairs) (edgeFor pair) (Memᴰ·map edgeFor (pairs-law sheet pair .1 h))))
 
   -- ---- a union is of two columns of a fact
 
   module _ (kept : Kept sheet) where
-    joins : (p : Two) (f : Columns) → Fact sheet f → p .0 ∈ f → p .1 ∈ f → Joins (Fact sheet) p
+    joins : (p : Two) (f : Columns) → Fact sheet f → List·Memᴰ (p .0) f → List·Memᴰ (p .1) f → Joins (Fact sheet) p
     joins p f h m n = (fact-below sheet kept f (p .0) h m, fact-below sheet kept f (p .1) h n, one-step (f, h, m, n))
 
-    edge-joins : (p : Two) → p ∈ map ends edges → Joins (Fact sheet) p
+    edge-joins : (p : Two) → List·Memᴰ p (map ends edges) → Joins (Fact sheet) p
     edge-joins p m =
         let r = edge-from p m in
         let first = r .0 .left in
         let second = r .0 .right in
         subst (Joins (Fact sheet)) (r .2) (joins (first, second) (first ∷ second ∷ []) (of-conjunct first second (r .0 .nullSafe) (r .1) refl) (List·Memᴰ·head refl) (List·Memᴰ·tail (List·Memᴰ·head refl)))
 
-    union-joins : (p : Two) → p ∈ unions → Joins (Fact sheet) p
+    union-joins : (p : Two) → List·Memᴰ p unions → Joins (Fact sheet) p
     unfolding unions
     union-joins p m =
-        ⊎-elim (λ (n : p ∈ allPairs (sheet .leftClasses)). let r = all-pair (sheet .leftClasses) p n in joins p (r .0 .columns) (of-left (r .0) (r .1) refl) (r .2) (r .3))
-        (λ (n : p ∈ allPairs (sheet .rightClasses) ++ map ends edges). ⊎-elim
-        (λ (o : p ∈ allPairs (sheet .rightClasses)). let r = all-pair (sheet .rightClasses) p o in joins p (r .0 .columns) (of-right (r .0) (r .1) refl) (r .2) (r .3))
-        (λ (o : p ∈ map ends edges). edge-joins p o)
+        ⊎-elim (λ (n : List·Memᴰ p (allPairs (sheet .leftClasses))). let r = all-pair (sheet .leftClasses) p n in joins p (r .0 .columns) (of-left (r .0) (r .1) refl) (r .2) (r .3))
+        (λ (n : List·Memᴰ p (allPairs (sheet .rightClasses) ++ map ends edges)). ⊎-elim
+        (λ (o : List·Memᴰ p (allPairs (sheet .rightClasses))). let r = all-pair (sheet .rightClasses) p o in joins p (r .0 .columns) (of-right (r .0) (r .1) refl) (r .2) (r .3))
+        (λ (o : List·Memᴰ p (map ends edges)). edge-joins p o)
         (List·Memᴰ·append-cases (allPairs (sheet .rightClasses)) n))
         (List·Memᴰ·append-cases (allPairs (sheet .leftClasses)) m)
 
   -- ---- the columns of a fact are joined by unions
 
-  fact-agrees : (l : List ℕ) → ((p : Two) → p ∈ unions → Agree l p) → (f : Columns) (a b : ℕ) → Fact sheet f → a ∈ f → b ∈ f → rootOf l a ≡ rootOf l b
+  fact-agrees : (l : List ℕ) → ((p : Two) → List·Memᴰ p unions → Agree l p) → (f : Columns) (a b : ℕ) → Fact sheet f → List·Memᴰ a f → List·Memᴰ b f → rootOf l a ≡ rootOf l b
   unfolding unions
   fact-agrees l h f a b (of-left class n e) p q =
       class-agrees l (class .columns) (λ z m. h z (Memᴰ·append-left (allPairs (sheet .rightClasses) ++ map ends edges) (pair-all (sheet .leftClasses) class n z m)))
-      a b (subst (λ (k : Columns). a ∈ k) (sym e) p) (subst (λ (k : Columns). b ∈ k) (sym e) q)
+      a b (subst (λ (k : Columns). List·Memᴰ a k) (sym e) p) (subst (λ (k : Columns). List·Memᴰ b k) (sym e) q)
   fact-agrees l h f a b (of-right class n e) p q =
       class-agrees l (class .columns) (λ z m. h z (Memᴰ·append-right (allPairs (sheet .leftClasses)) (Memᴰ·append-left (map ends edges) (pair-all (sheet .rightClasses) class n z m))))
-      a b (subst (λ (k : Columns). a ∈ k) (sym e) p) (subst (λ (k : Columns). b ∈ k) (sym e) q)
+      a b (subst (λ (k : Columns). List·Memᴰ a k) (sym e) p) (subst (λ (k : Columns). List·Memᴰ b k) (sym e) q)
   fact-agrees l h f a b (of-conjunct first second nullSafe n e) p q =
       let w : rootOf l first ≡ rootOf l second = h (first, second) (Memᴰ·append-right (allPairs (sheet .leftClasses)) (Memᴰ·append-right (allPairs (sheet .rightClasses)) (edge-to first second nullSafe n))) in
       let to = of-two (λ (c : ℕ). rootOf l c ≡ rootOf l first) first second refl (sym w) in
-      to a (subst (λ (k : Columns). a ∈ k) (sym e) p) ∙ sym (to b (subst (λ (k : Columns). b ∈ k) (sym e) q))
+      to a (subst (λ (k : Columns). List·Memᴰ a k) (sym e) p) ∙ sym (to b (subst (λ (k : Columns). List·Memᴰ b k) (sym e) q))
 
   -- ---- the whole
 
   module _ (kept : Kept sheet) where
-    all-joined : Sound (Fact sheet) (joinState sheet .roots) × ((p : Two) → p ∈ unions → Agree (joinState sheet .roots) p)
+    all-joined : Sound (Fact sheet) (joinState sheet .roots) × ((p : Two) → List·Memᴰ p unions → Agree (joinState sheet .roots) p)
     all-joined =
         let r = joined-all (Fact sheet) (apart sheet .roots) unions (apart-sound (Fact sheet) sheet) (union-joins kept) in
-        subst (λ (l : List ℕ). Sound (Fact sheet) l × ((p : Two) → p ∈ unions → Agree l p)) (sym roots-are) (r .0, r .2)
+        subst (λ (l : List ℕ). Sound (Fact sheet) l × ((p : Two) → List·Memᴰ p unions → Agree l p)) (sym roots-are) (r .0, r .2)
 
     -- columns have one root exactly when a chain of facts links them
     pub root-law : (a b : ℕ) → a < 128 → b < 128 → (find (joinState sheet) a ≡ find (joinState sheet) b) ↔ Linked (Fact sheet) a b

@@ -1,7 +1,7 @@
 -- What a join's answer is read back as: the blocks are its classes' columns, the non-null columns are its own. What stands from a place on is what is left behind the bytes before it. Assumes nothing.
 use Prim.Native.Nat.{ℕ, suc, _+_, _*_, _<_}
 use mathlib.Core.Path.{_≡_, refl, sym, ap, _∙_}
-use mathlib.Core.List.{List, [], _∷_, _++_, map, append-assoc, append-nil, List·Memᴰ·head, List·Memᴰ·tail}
+use mathlib.Core.List.{List, [], _∷_, _++_, map, append-assoc, append-nil, List·Memᴰ, List·Memᴰ·head, List·Memᴰ·tail}
 use native.Mathlib.Omega.{arith}
 use native.Mathlib.Nat.{add-zero}
 use lib.ListN.{length, drop, length-append}
@@ -21,16 +21,16 @@ use Rattle.edge_fold.specs.Coverages.{coveragesBytes}
 use Rattle.edge_fold.proofs.CoverageLaws.{coverages-length}
 use Rattle.join_answer.specs.Join.{figuresBytes, joinBytes}
 use Rattle.demand.specs.Reader.{classesPlace, blockAt, behindClass, blocksFrom, behindClasses, blocks, coveragesPlace, nonNullPlace, columnIn, nonNulls}
-use Rattle.demand.specs.Claim.{_∈_, Columns}
+use Rattle.demand.specs.Claim.{Columns}
 
 -- two bytes have room for each number of a list, and for their count
 pub record Short (l : List ℕ) : Type 0 where
   pub count : length l < 65536
-  pub each : (n : ℕ) → n ∈ l → n < 65536
+  pub each : (n : ℕ) → List·Memᴰ n l → n < 65536
 
 pub record ShortJoin (j : JoinSelectivityEstimate) : Type 0 where
   pub classCount : length (j .equivalenceClasses) < 65536
-  pub classes : (class : ColumnEquivalenceClass) → class ∈ j .equivalenceClasses → Short (class .columns)
+  pub classes : (class : ColumnEquivalenceClass) → List·Memᴰ class (j .equivalenceClasses) → Short (class .columns)
   pub coverageCount : length (j .leftEqualityCoverages) < 65536
   pub nonNull : Short (j .nonNullEqualityColumns)
 
@@ -48,12 +48,12 @@ read-count s q at v h e = (field-found 2 v s q at h e, skip s (u16Bytes v) q at 
 -- ---- columns
 
 -- the i-th of those that stand at a place, and the ones behind it
-columns-from : (cs s q : List ℕ) (at i : ℕ) → ((c : ℕ) → c ∈ cs → c < 65536) → drop (at + 2 * i) s ≡ numbersBytes cs ++ q → tabulateFrom (λ (i : ℕ). u16At s (at + 2 * i)) i (length cs) ≡ cs
+columns-from : (cs s q : List ℕ) (at i : ℕ) → ((c : ℕ) → List·Memᴰ c cs → c < 65536) → drop (at + 2 * i) s ≡ numbersBytes cs ++ q → tabulateFrom (λ (i : ℕ). u16At s (at + 2 * i)) i (length cs) ≡ cs
 unfolding tabulateFrom numbersBytes
 columns-from [] s q at i h e = refl
 columns-from (c ∷ cs) s q at i h e =
     let r = read-count s (numbersBytes cs ++ q) (at + 2 * i) c (h c (List·Memᴰ·head refl)) (e ∙ append-assoc (u16Bytes c) (numbersBytes cs) q) in
-    let n = columns-from cs s q at (i + 1) (λ (d : ℕ) (m : d ∈ cs). h d (List·Memᴰ·tail m)) (ap (λ (k : ℕ). drop k s) (more at i) ∙ r .1) in
+    let n = columns-from cs s q at (i + 1) (λ (d : ℕ) (m : List·Memᴰ d cs). h d (List·Memᴰ·tail m)) (ap (λ (k : ℕ). drop k s) (more at i) ∙ r .1) in
     λ k. r .0 k ∷ n k
   where
     more : (at i : ℕ) → at + 2 * (i + 1) ≡ at + 2 * i + 2
@@ -77,13 +77,13 @@ read-class class s q at h e =
     sum : (at : ℕ) → at + 28 ≡ at + 2 + 26
     sum at = omega arith
 
-read-classes : (classes : List ColumnEquivalenceClass) (s q : List ℕ) (at : ℕ) → ((class : ColumnEquivalenceClass) → class ∈ classes → Short (class .columns)) → drop at s ≡ classesBytes classes ++ q
+read-classes : (classes : List ColumnEquivalenceClass) (s q : List ℕ) (at : ℕ) → ((class : ColumnEquivalenceClass) → List·Memᴰ class classes → Short (class .columns)) → drop at s ≡ classesBytes classes ++ q
     → (blocksFrom s at (length classes) ≡ map columnsOf classes) × (drop (behindClasses s at (length classes)) s ≡ q)
 unfolding blocksFrom behindClasses classesBytes
 read-classes [] s q at h e = (refl, e)
 read-classes (class ∷ classes) s q at h e =
     let c = read-class class s (classesBytes classes ++ q) at (h class (List·Memᴰ·head refl)) (e ∙ append-assoc (classBytes class) (classesBytes classes) q) in
-    let n = read-classes classes s q (behindClass s at) (λ (d : ColumnEquivalenceClass) (m : d ∈ classes). h d (List·Memᴰ·tail m)) (c .1) in
+    let n = read-classes classes s q (behindClass s at) (λ (d : ColumnEquivalenceClass) (m : List·Memᴰ d classes). h d (List·Memᴰ·tail m)) (c .1) in
     (λ k. c .0 k ∷ n .0 k, n .1)
 
 -- ---- the answer

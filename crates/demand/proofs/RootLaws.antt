@@ -3,7 +3,7 @@ use Prim.Native.Nat.{ℕ, zero, suc, _<_}
 use mathlib.Core.Path.{_≡_, refl, sym, subst, _∙_, ap, ap₂}
 use mathlib.Core.Logic.{_⊎_, inl, inr, ⊎-elim}
 use mathlib.Core.Bool.{Bool, true, false, cond}
-use mathlib.Core.List.{List, [], _∷_, _++_, map, List·Memᴰ·head, List·Memᴰ·tail, List·Memᴰ·cases-cons, List·Memᴰ·not-nil, List·Memᴰ·append-cases, Memᴰ·append-left, Memᴰ·append-right, Memᴰ·map, Memᴰ·of-map}
+use mathlib.Core.List.{List, [], _∷_, _++_, map, List·Memᴰ, List·Memᴰ·head, List·Memᴰ·tail, List·Memᴰ·cases-cons, List·Memᴰ·not-nil, List·Memᴰ·append-cases, Memᴰ·append-left, Memᴰ·append-right, Memᴰ·map, Memᴰ·of-map}
 use lib.ListN.{length, getD, length-map}
 use native.Mathlib.Decide.{ℕ-discrete}
 use native.Mathlib.Nat.{le-of-suc-le-suc}
@@ -15,7 +15,7 @@ use Rattle.sheet.specs.Sheet.{Sheet}
 use Rattle.class_state.specs.State.{ClassState, equivalent, moved, under, union, unionEach, overwritten, withColumns, withClasses}
 use Rattle.edge_fold.specs.Edges.{EqualityEdge}
 use Rattle.edge_fold.specs.Fold.{Folded, withEdge, withEdges}
-use Rattle.demand.specs.Claim.{_∈_, Columns, Linked, no-step, step}
+use Rattle.demand.specs.Claim.{Columns, Linked, no-step, step}
 use Rattle.demand.proofs.ChainLaws.{trans, turned}
 
 -- of a column, in a list of roots
@@ -123,7 +123,7 @@ abbrev pub Joins : (Columns → Type 0) → Two → Type 0
 Joins F p = (p .0 < 128) × (p .1 < 128) × Linked F (p .0) (p .1)
 
 -- unions of linked columns keep roots sound, keep what agreed, and what was joined agrees
-pub joined-all : (F : Columns → Type 0) (l : List ℕ) (ps : List Two) → Sound F l → ((p : Two) → p ∈ ps → Joins F p) → Sound F (joinedAll l ps) × Keeps l (joinedAll l ps) × ((p : Two) → p ∈ ps → Agree (joinedAll l ps) p)
+pub joined-all : (F : Columns → Type 0) (l : List ℕ) (ps : List Two) → Sound F l → ((p : Two) → List·Memᴰ p ps → Joins F p) → Sound F (joinedAll l ps) × Keeps l (joinedAll l ps) × ((p : Two) → List·Memᴰ p ps → Agree (joinedAll l ps) p)
 unfolding joinedAll
 joined-all F l [] h g = (h, λ a b ha hb e. e, λ p m. absurd (List·Memᴰ·not-nil m))
 joined-all F l (p ∷ ps) h g =
@@ -134,7 +134,7 @@ joined-all F l (p ∷ ps) h g =
       λ a b ha hb e. r .1 a b ha hb (joined-keeps F l h (p .0) (p .1) (w .0) (w .1) a b ha hb e),
       λ q m. ⊎-elim
           (λ (e : q ≡ p). subst (Agree (joinedAll next ps)) (sym e) (r .1 (p .0) (p .1) (w .0) (w .1) (joined-joins F l h (p .0) (p .1) (w .0) (w .1))))
-          (λ (n : q ∈ ps). r .2 q n) (List·Memᴰ·cases-cons m),
+          (λ (n : List·Memᴰ q ps). r .2 q n) (List·Memᴰ·cases-cons m),
     )
 
 -- ---- the roots of each state are those of such a list
@@ -196,39 +196,39 @@ edges-roots sheet state (edge ∷ edges) =
 -- ---- what the unions of classes join
 
 -- both columns are joined with the first
-pub class-agrees : (l columns : List ℕ) → ((p : Two) → p ∈ classPairs columns → Agree l p) → (a b : ℕ) → a ∈ columns → b ∈ columns → rootOf l a ≡ rootOf l b
+pub class-agrees : (l columns : List ℕ) → ((p : Two) → List·Memᴰ p (classPairs columns) → Agree l p) → (a b : ℕ) → List·Memᴰ a columns → List·Memᴰ b columns → rootOf l a ≡ rootOf l b
 unfolding classPairs
 class-agrees l [] h a b m n = absurd (List·Memᴰ·not-nil m)
 class-agrees l (first ∷ columns) h a b m n = sym (to a (List·Memᴰ·cases-cons m)) ∙ to b (List·Memᴰ·cases-cons n)
   where
-    to : (c : ℕ) → (c ≡ first) ⊎ (c ∈ columns) → rootOf l first ≡ rootOf l c
+    to : (c : ℕ) → (c ≡ first) ⊎ (List·Memᴰ c columns) → rootOf l first ≡ rootOf l c
     to c (inl e) = ap (rootOf l) (sym e)
     to c (inr k) = h (first, c) (Memᴰ·map (λ (d : ℕ). (first, d)) k)
 
-class-pair : (columns : List ℕ) (p : Two) → p ∈ classPairs columns → (p .0 ∈ columns) × (p .1 ∈ columns)
+class-pair : (columns : List ℕ) (p : Two) → List·Memᴰ p (classPairs columns) → (List·Memᴰ (p .0) columns) × (List·Memᴰ (p .1) columns)
 unfolding classPairs
 class-pair [] p m = absurd (List·Memᴰ·not-nil m)
 class-pair (first ∷ columns) p m =
     let r = Memᴰ·of-map (λ (c : ℕ). (first, c)) columns m in
-    subst (λ (z : Two). (z .0 ∈ first ∷ columns) × (z .1 ∈ first ∷ columns)) (r .2) (List·Memᴰ·head refl, List·Memᴰ·tail (r .1))
+    subst (λ (z : Two). (List·Memᴰ (z .0) (first ∷ columns)) × (List·Memᴰ (z .1) (first ∷ columns))) (r .2) (List·Memᴰ·head refl, List·Memᴰ·tail (r .1))
 
-pub all-pair : (classes : List ColumnEquivalenceClass) (p : Two) → p ∈ allPairs classes → (class : ColumnEquivalenceClass) × (class ∈ classes) × (p .0 ∈ class .columns) × (p .1 ∈ class .columns)
+pub all-pair : (classes : List ColumnEquivalenceClass) (p : Two) → List·Memᴰ p (allPairs classes) → (class : ColumnEquivalenceClass) × List·Memᴰ class classes × (List·Memᴰ (p .0) (class .columns)) × (List·Memᴰ (p .1) (class .columns))
 unfolding allPairs
 all-pair [] p m = absurd (List·Memᴰ·not-nil m)
 all-pair (class ∷ classes) p m =
-    ⊎-elim (λ (n : p ∈ classPairs (class .columns)). let r = class-pair (class .columns) p n in (class, List·Memᴰ·head refl, r .0, r .1))
-    (λ (n : p ∈ allPairs classes). let r = all-pair classes p n in (r .0, List·Memᴰ·tail (r .1), r .2, r .3))
+    ⊎-elim (λ (n : List·Memᴰ p (classPairs (class .columns))). let r = class-pair (class .columns) p n in (class, List·Memᴰ·head refl, r .0, r .1))
+    (λ (n : List·Memᴰ p (allPairs classes)). let r = all-pair classes p n in (r .0, List·Memᴰ·tail (r .1), r .2, r .3))
     (List·Memᴰ·append-cases (classPairs (class .columns)) m)
 
-pub pair-all : (classes : List ColumnEquivalenceClass) (class : ColumnEquivalenceClass) → class ∈ classes → (p : Two) → p ∈ classPairs (class .columns) → p ∈ allPairs classes
+pub pair-all : (classes : List ColumnEquivalenceClass) (class : ColumnEquivalenceClass) → List·Memᴰ class classes → (p : Two) → List·Memᴰ p (classPairs (class .columns)) → List·Memᴰ p (allPairs classes)
 unfolding allPairs
 pair-all [] class m p n = absurd (List·Memᴰ·not-nil m)
 pair-all (other ∷ classes) class m p n =
-    ⊎-elim (λ (e : class ≡ other). Memᴰ·append-left (allPairs classes) (subst (λ (c : ColumnEquivalenceClass). p ∈ classPairs (c .columns)) e n))
-    (λ (o : class ∈ classes). Memᴰ·append-right (classPairs (other .columns)) (pair-all classes class o p n))
+    ⊎-elim (λ (e : class ≡ other). Memᴰ·append-left (allPairs classes) (subst (λ (c : ColumnEquivalenceClass). List·Memᴰ p (classPairs (c .columns))) e n))
+    (λ (o : List·Memᴰ class classes). Memᴰ·append-right (classPairs (other .columns)) (pair-all classes class o p n))
     (List·Memᴰ·cases-cons m)
 
 -- roots that agree in every fact agree along a chain
-pub along : (F : Columns → Type 0) (l : List ℕ) → ((f : Columns) (a b : ℕ) → F f → a ∈ f → b ∈ f → rootOf l a ≡ rootOf l b) → {a b : ℕ} → Linked F a b → rootOf l a ≡ rootOf l b
+pub along : (F : Columns → Type 0) (l : List ℕ) → ((f : Columns) (a b : ℕ) → F f → List·Memᴰ a f → List·Memᴰ b f → rootOf l a ≡ rootOf l b) → {a b : ℕ} → Linked F a b → rootOf l a ≡ rootOf l b
 along F l h (no-step e) = ap (rootOf l) e
 along F l h (step {a = a} {b = b} t c) = h (t .0) a b (t .1) (t .2) (t .3) ∙ along F l h c

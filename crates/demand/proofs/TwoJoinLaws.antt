@@ -3,26 +3,26 @@ use Prim.Native.Nat.{ℕ, suc}
 use mathlib.Core.Path.{_≡_, refl, sym, ap, _∙_, subst}
 use mathlib.Core.Logic.{_≢_, _⊎_, inl, inr}
 use mathlib.Core.Bool.{false}
-use mathlib.Core.List.{List, [], _∷_, List·Memᴰ·head, List·Memᴰ·tail, Memᴰ·cast}
+use mathlib.Core.List.{List, [], _∷_, List·Memᴰ, List·Memᴰ·head, List·Memᴰ·tail, Memᴰ·cast}
 use lib.ListN.{getD}
 use native.Mathlib.Decide.{ℕ-discrete}
 use Rattle.sheet.specs.Sheet.{Sheet}
 use Rattle.demand.specs.Reader.{blocks, nonNulls}
-use Rattle.demand.specs.Claim.{_∈_, Columns, Within, SameSet, Equates, Fact, Equated, equated, Together, Linked, AllFollow, InOrdinary, LeadsToOrdinary, EquatedIn, Block, ShareBlock, OneJoin, TwoJoins}
+use Rattle.demand.specs.Claim.{Columns, Within, SameSet, Equates, Fact, Equated, equated, Together, Linked, AllFollow, InOrdinary, LeadsToOrdinary, EquatedIn, Block, ShareBlock, OneJoin, TwoJoins}
 use Rattle.demand.proofs.ChainLaws.{one-step, carried, follow-linked, within-follow}
 
 -- ---- blocks
 
-place : {k : Columns} {K : List Columns} → k ∈ K → (i : ℕ) × (getD K i [] ≡ k)
+place : {k : Columns} {K : List Columns} → List·Memᴰ k K → (i : ℕ) × (getD K i [] ≡ k)
 place (List·Memᴰ·head e) = (0, sym e)
 place (List·Memᴰ·tail m) = let r = place m in (suc (r .0), r .1)
 
 -- two blocks with a common column are one
-one-block : (K : List Columns) → ((i j a : ℕ) → a ∈ getD K i [] → a ∈ getD K j [] → i ≡ j) → (k g : Columns) (a : ℕ) → k ∈ K → g ∈ K → a ∈ k → a ∈ g → k ≡ g
+one-block : (K : List Columns) → ((i j a : ℕ) → List·Memᴰ a (getD K i []) → List·Memᴰ a (getD K j []) → i ≡ j) → (k g : Columns) (a : ℕ) → List·Memᴰ k K → List·Memᴰ g K → List·Memᴰ a k → List·Memᴰ a g → k ≡ g
 one-block K apart k g a mk mg ak ag =
     let p = place mk in
     let q = place mg in
-    let e = apart (p .0) (q .0) a (subst (λ (l : Columns). a ∈ l) (sym (p .1)) ak) (subst (λ (l : Columns). a ∈ l) (sym (q .1)) ag) in
+    let e = apart (p .0) (q .0) a (subst (λ (l : Columns). List·Memᴰ a l) (sym (p .1)) ak) (subst (λ (l : Columns). List·Memᴰ a l) (sym (q .1)) ag) in
     sym (p .1) ∙ ap (λ (i : ℕ). getD K i []) e ∙ q .1
 
 module _ {s t : Sheet} {x y : List ℕ} (p : OneJoin s x) (q : OneJoin t y) (st : AllFollow (Fact t) (Fact s)) where
@@ -30,14 +30,14 @@ module _ {s t : Sheet} {x y : List ℕ} (p : OneJoin s x) (q : OneJoin t y) (st 
   share-over a b n h = q .share a b n .1 (follow-linked st (p .share a b n .0 h))
 
   -- a block's columns stand in the other join's block that has one of them
-  block-over : (k g : Columns) (a : ℕ) → Block x k → Block y g → a ∈ k → a ∈ g → (d : ℕ) → d ∈ k → d ∈ g
+  block-over : (k g : Columns) (a : ℕ) → Block x k → Block y g → List·Memᴰ a k → List·Memᴰ a g → (d : ℕ) → List·Memᴰ d k → List·Memᴰ d g
   block-over k g a mk mg ak ag d h = decided (ℕ-discrete a d)
     where
-      decided : Dec (a ≡ d) → d ∈ g
+      decided : Dec (a ≡ d) → List·Memᴰ d g
       decided (yes e) = Memᴰ·cast (sym e) ag
       decided (no n) =
           let r = share-over a d n (k, mk, ak, h) in
-          subst (λ (l : Columns). d ∈ l) (one-block (blocks y) (q .apart) (r .0) g a (r .1) mg (r .2) ag) (r .3)
+          subst (λ (l : Columns). List·Memᴰ d l) (one-block (blocks y) (q .apart) (r .0) g a (r .1) mg (r .2) ag) (r .3)
 
 blocks-within : {s t : Sheet} {x y : List ℕ} → OneJoin s x → OneJoin t y → AllFollow (Fact t) (Fact s) → AllFollow (Fact s) (Fact t) → Within (Block x) (Block y)
 blocks-within p q st ts k mk =
@@ -53,7 +53,7 @@ within-facts p q w f m a b ma mb n =
 
 -- ---- non-null columns
 
-swapped : {first second c : ℕ} → c ∈ first ∷ second ∷ [] → c ∈ second ∷ first ∷ []
+swapped : {first second c : ℕ} → List·Memᴰ c (first ∷ second ∷ []) → List·Memᴰ c (second ∷ first ∷ [])
 swapped (List·Memᴰ·head e) = List·Memᴰ·tail (List·Memᴰ·head e)
 swapped (List·Memᴰ·tail (List·Memᴰ·head e)) = List·Memᴰ·head e
 
@@ -61,8 +61,8 @@ module _ {s t : Sheet} (w : EquatedIn s t) where
   step-over : (a b : ℕ) → Together (Equated s) a b → Linked (Equated t) a b
   step-over a b (f, equated first second nullSafe e q, ma, mb) = either (w first second nullSafe e)
     where
-      in-pair : {c : ℕ} → c ∈ f → c ∈ first ∷ second ∷ []
-      in-pair {c} m = subst (λ (l : Columns). c ∈ l) (sym q) m
+      in-pair : {c : ℕ} → List·Memᴰ c f → List·Memᴰ c (first ∷ second ∷ [])
+      in-pair {c} m = subst (λ (l : Columns). List·Memᴰ c l) (sym q) m
 
       either : Equates t first second nullSafe ⊎ Equates t second first nullSafe → Linked (Equated t) a b
       either (inl d) = one-step (first ∷ second ∷ [], equated first second nullSafe d refl, in-pair ma, in-pair mb)
@@ -78,7 +78,7 @@ module _ {s t : Sheet} (w : EquatedIn s t) where
   leads-over : (a : ℕ) → LeadsToOrdinary s a → LeadsToOrdinary t a
   leads-over a (c, l, o) = (c, carried step-over l, ordinary-over c o)
 
-non-nulls-over : {s t : Sheet} {x y : List ℕ} → OneJoin s x → OneJoin t y → EquatedIn s t → (a : ℕ) → a ∈ nonNulls x → a ∈ nonNulls y
+non-nulls-over : {s t : Sheet} {x y : List ℕ} → OneJoin s x → OneJoin t y → EquatedIn s t → (a : ℕ) → List·Memᴰ a (nonNulls x) → List·Memᴰ a (nonNulls y)
 non-nulls-over p q w a m = q .nonNull a .1 (leads-over w a (p .nonNull a .0 m))
 
 -- ---- the two joins

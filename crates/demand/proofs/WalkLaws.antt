@@ -3,7 +3,7 @@ use Prim.Native.Nat.{ℕ, zero, suc, _+_, _<_, _≤_}
 use mathlib.Core.Path.{_≡_, refl, sym, ap, _∙_, subst}
 use mathlib.Core.Logic.{_↔_, _≢_, _⊎_, inl, inr, ⊎-elim}
 use mathlib.Core.Bool.{Bool, true, false, cond, _||_, false≢true}
-use mathlib.Core.List.{List, [], _∷_, List·Memᴰ·head, List·Memᴰ·tail, List·Memᴰ·cases-cons, List·Memᴰ·not-nil, List·Memᴰ·eq-of-singleton}
+use mathlib.Core.List.{List, [], _∷_, List·Memᴰ, List·Memᴰ·head, List·Memᴰ·tail, List·Memᴰ·cases-cons, List·Memᴰ·not-nil, List·Memᴰ·eq-of-singleton}
 use native.Mathlib.Omega.{arith}
 use native.Mathlib.Decide.{ℕ-discrete}
 use native.Mathlib.Nat.{suc-inj, suc-le-suc-iff, zero-lt-suc}
@@ -16,7 +16,7 @@ use Rattle.selection.proofs.SelectedLaws.{selected-in, in-selected}
 use Rattle.sheet.specs.Sheet.{Sheet}
 use Rattle.equality_pairs.specs.Pairs.{EqualityPair, equalityPairs}
 use Rattle.equality_pairs.specs.NonNull.{isMarked, withBoth, withOrdinary, extended, pass, count, passes, nonNullMarks, markedColumns}
-use Rattle.demand.specs.Claim.{_∈_, Columns, Equates, Equated, equated, Linked, no-step, step, LeadsToOrdinary}
+use Rattle.demand.specs.Claim.{Columns, Equates, Equated, equated, Linked, no-step, step, LeadsToOrdinary}
 use Rattle.demand.proofs.Kept.{Kept}
 use Rattle.demand.proofs.ChainLaws.{trans, one-step}
 use Rattle.demand.proofs.KeptLaws.{pairs-law}
@@ -26,7 +26,7 @@ columnsOf p = p .left ∷ p .right ∷ []
 
 -- both columns of each pair are below n
 abbrev Fits : ℕ → List EqualityPair → Type 0
-Fits n ps = (p : EqualityPair) → p ∈ ps → (p .left < n) × (p .right < n)
+Fits n ps = (p : EqualityPair) → List·Memᴰ p ps → (p .left < n) × (p .right < n)
 
 -- ---- marks are only added
 
@@ -51,7 +51,7 @@ both-adds : (m : List Bool) (p : EqualityPair) → Adds m (withBoth m p)
 unfolding withBoth
 both-adds m p c h = set-adds (set m (p .left) true) (p .right) c (set-adds m (p .left) c h)
 
-both-only : (m : List Bool) (p : EqualityPair) (c : ℕ) → isMarked (withBoth m p) c ≡ true → (c ∈ columnsOf p) ⊎ (isMarked m c ≡ true)
+both-only : (m : List Bool) (p : EqualityPair) (c : ℕ) → isMarked (withBoth m p) c ≡ true → (List·Memᴰ c (columnsOf p)) ⊎ (isMarked m c ≡ true)
 unfolding withBoth
 both-only m p c h =
     ⊎-elim (λ (e : c ≡ p .right). inl (List·Memᴰ·tail (List·Memᴰ·head e)))
@@ -62,13 +62,13 @@ both-length : (m : List Bool) (p : EqualityPair) → length (withBoth m p) ≡ l
 unfolding withBoth
 both-length m p = length-set (set m (p .left) true) (p .right) true ∙ length-set m (p .left) true
 
-both-marked : (m : List Bool) (p : EqualityPair) → (p .left < length m) × (p .right < length m) → (c : ℕ) → c ∈ columnsOf p → isMarked (withBoth m p) c ≡ true
+both-marked : (m : List Bool) (p : EqualityPair) → (p .left < length m) × (p .right < length m) → (c : ℕ) → List·Memᴰ c (columnsOf p) → isMarked (withBoth m p) c ≡ true
 unfolding withBoth
 both-marked m p (l, r) c h =
     let once : List Bool = set m (p .left) true in
     let size : length once ≡ length m = length-set m (p .left) true in
     ⊎-elim (λ (e : c ≡ p .left). ap (isMarked (set once (p .right) true)) e ∙ set-adds once (p .right) (p .left) (getD-set-same m (p .left) true false l))
-    (λ (k : c ∈ p .right ∷ []). ap (isMarked (set once (p .right) true)) (List·Memᴰ·eq-of-singleton k) ∙ getD-set-same once (p .right) true false (omega arith))
+    (λ (k : List·Memᴰ c (p .right ∷ [])). ap (isMarked (set once (p .right) true)) (List·Memᴰ·eq-of-singleton k) ∙ getD-set-same once (p .right) true false (omega arith))
     (List·Memᴰ·cases-cons h)
 
 either-way : (P : List Bool → Type 0) (t : Bool) (m n : List Bool) → P m → P n → P (cond t m n)
@@ -96,10 +96,10 @@ unfolding pass
 pass-length m [] = refl
 pass-length m (p ∷ ps) = pass-length (extended m p) ps ∙ extended-length m p
 
-touched : (m : List Bool) (p : EqualityPair) (c : ℕ) → c ∈ columnsOf p → isMarked m c ≡ true → touches m p ≡ true
+touched : (m : List Bool) (p : EqualityPair) (c : ℕ) → List·Memᴰ c (columnsOf p) → isMarked m c ≡ true → touches m p ≡ true
 touched m p c h k =
     ⊎-elim (λ (e : c ≡ p .left). first (isMarked m (p .left)) (isMarked m (p .right)) (ap (isMarked m) (sym e) ∙ k))
-    (λ (n : c ∈ p .right ∷ []). second (isMarked m (p .left)) (isMarked m (p .right)) (ap (isMarked m) (sym (List·Memᴰ·eq-of-singleton n)) ∙ k))
+    (λ (n : List·Memᴰ c (p .right ∷ [])). second (isMarked m (p .left)) (isMarked m (p .right)) (ap (isMarked m) (sym (List·Memᴰ·eq-of-singleton n)) ∙ k))
     (List·Memᴰ·cases-cons h)
   where
     first : (a b : Bool) → a ≡ true → (a || b) ≡ true
@@ -111,15 +111,15 @@ touched m p c h k =
     second false b e = e
 
 -- it goes over every pair: a mark on one column of it comes to the other
-pass-over : (m : List Bool) (ps : List EqualityPair) → Fits (length m) ps → (p : EqualityPair) → p ∈ ps → (c d : ℕ) → c ∈ columnsOf p → d ∈ columnsOf p → isMarked m c ≡ true → isMarked (pass m ps) d ≡ true
+pass-over : (m : List Bool) (ps : List EqualityPair) → Fits (length m) ps → (p : EqualityPair) → List·Memᴰ p ps → (c d : ℕ) → List·Memᴰ c (columnsOf p) → List·Memᴰ d (columnsOf p) → isMarked m c ≡ true → isMarked (pass m ps) d ≡ true
 unfolding pass
 pass-over m [] f p n c d x y h = absurd (List·Memᴰ·not-nil n)
 pass-over m (q ∷ ps) f p n c d x y h =
     ⊎-elim (λ (e : p ≡ q).
-    let cq : c ∈ columnsOf q = subst (λ (o : EqualityPair). c ∈ columnsOf o) e x in
-    let dq : d ∈ columnsOf q = subst (λ (o : EqualityPair). d ∈ columnsOf o) e y in
+    let cq : List·Memᴰ c (columnsOf q) = subst (λ (o : EqualityPair). List·Memᴰ c (columnsOf o)) e x in
+    let dq : List·Memᴰ d (columnsOf q) = subst (λ (o : EqualityPair). List·Memᴰ d (columnsOf o)) e y in
     pass-adds (extended m q) ps d (rw (touched m q c cq h) (both-marked m q (f q (List·Memᴰ·head refl)) d dq)))
-    (λ (k : p ∈ ps). pass-over (extended m q) ps (λ o w. subst (λ (z : ℕ). (o .left < z) × (o .right < z)) (sym (extended-length m q)) (f o (List·Memᴰ·tail w))) p k c d x y (extended-adds m q c h))
+    (λ (k : List·Memᴰ p ps). pass-over (extended m q) ps (λ o w. subst (λ (z : ℕ). (o .left < z) × (o .right < z)) (sym (extended-length m q)) (f o (List·Memᴰ·tail w))) p k c d x y (extended-adds m q c h))
     (List·Memᴰ·cases-cons n)
 
 -- ---- counts of marks
@@ -211,22 +211,22 @@ unfolding withOrdinary
 ordinary-length m [] = refl
 ordinary-length m (p ∷ ps) = ordinary-length (begun m p) ps ∙ begun-length m p
 
-ordinary-marked : (m : List Bool) (ps : List EqualityPair) → Fits (length m) ps → (p : EqualityPair) → p ∈ ps → p .nullSafe ≡ false → (c : ℕ) → c ∈ columnsOf p → isMarked (withOrdinary m ps) c ≡ true
+ordinary-marked : (m : List Bool) (ps : List EqualityPair) → Fits (length m) ps → (p : EqualityPair) → List·Memᴰ p ps → p .nullSafe ≡ false → (c : ℕ) → List·Memᴰ c (columnsOf p) → isMarked (withOrdinary m ps) c ≡ true
 unfolding withOrdinary
 ordinary-marked m [] f p n o c x = absurd (List·Memᴰ·not-nil n)
 ordinary-marked m (q ∷ ps) f p n o c x =
     ⊎-elim (λ (e : p ≡ q).
-    let cq : c ∈ columnsOf q = subst (λ (k : EqualityPair). c ∈ columnsOf k) e x in
+    let cq : List·Memᴰ c (columnsOf q) = subst (λ (k : EqualityPair). List·Memᴰ c (columnsOf k)) e x in
     let oq : false ≡ q .nullSafe = sym o ∙ ap (λ (k : EqualityPair). k .nullSafe) e in
     ordinary-adds (begun m q) ps c (subst (λ (t : Bool). isMarked (cond t m (withBoth m q)) c ≡ true) oq (both-marked m q (f q (List·Memᴰ·head refl)) c cq)))
-    (λ (k : p ∈ ps). ordinary-marked (begun m q) ps (λ j w. subst (λ (z : ℕ). (j .left < z) × (j .right < z)) (sym (begun-length m q)) (f j (List·Memᴰ·tail w))) p k o c x)
+    (λ (k : List·Memᴰ p ps). ordinary-marked (begun m q) ps (λ j w. subst (λ (z : ℕ). (j .left < z) × (j .right < z)) (sym (begun-length m q)) (f j (List·Memᴰ·tail w))) p k o c x)
     (List·Memᴰ·cases-cons n)
 
 -- ---- each mark is true
 
 module _ (sheet : Sheet) where
   abbrev AllEquate : List EqualityPair → Type 0
-  AllEquate ps = (p : EqualityPair) → p ∈ ps → Equates sheet (p .left) (p .right) (p .nullSafe)
+  AllEquate ps = (p : EqualityPair) → List·Memᴰ p ps → Equates sheet (p .left) (p .right) (p .nullSafe)
 
   abbrev AllTrue : List Bool → Type 0
   AllTrue m = (c : ℕ) → isMarked m c ≡ true → LeadsToOrdinary sheet c
@@ -238,15 +238,15 @@ module _ (sheet : Sheet) where
     where
       go : (t : Bool) → Equates sheet (p .left) (p .right) t → AllTrue (cond t m (withBoth m p))
       go true e c k = h c k
-      go false e c k = ⊎-elim (λ (x : c ∈ columnsOf p). (c, no-step refl, record { first = p .left; second = p .right; equates = e; stands = x })) (λ (x : isMarked m c ≡ true). h c x) (both-only m p c k)
+      go false e c k = ⊎-elim (λ (x : List·Memᴰ c (columnsOf p)). (c, no-step refl, record { first = p .left; second = p .right; equates = e; stands = x })) (λ (x : isMarked m c ≡ true). h c x) (both-only m p c k)
 
-  leads-over : (a b : ℕ) (nullSafe : Bool) → Equates sheet a b nullSafe → (c d : ℕ) → c ∈ a ∷ b ∷ [] → d ∈ a ∷ b ∷ [] → LeadsToOrdinary sheet c → LeadsToOrdinary sheet d
+  leads-over : (a b : ℕ) (nullSafe : Bool) → Equates sheet a b nullSafe → (c d : ℕ) → List·Memᴰ c (a ∷ b ∷ []) → List·Memᴰ d (a ∷ b ∷ []) → LeadsToOrdinary sheet c → LeadsToOrdinary sheet d
   leads-over a b nullSafe e c d x y (o, l, w) = let k : Linked (Equated sheet) d c = one-step (a ∷ b ∷ [], equated a b nullSafe e refl, y, x) in (o, trans k l, w)
 
-  some-mark : (m : List Bool) (p : EqualityPair) → touches m p ≡ true → (c : ℕ) × (c ∈ columnsOf p) × (isMarked m c ≡ true)
+  some-mark : (m : List Bool) (p : EqualityPair) → touches m p ≡ true → (c : ℕ) × (List·Memᴰ c (columnsOf p)) × (isMarked m c ≡ true)
   some-mark m p h = go (isMarked m (p .left)) refl h
     where
-      go : (t : Bool) → isMarked m (p .left) ≡ t → (t || isMarked m (p .right)) ≡ true → (c : ℕ) × (c ∈ columnsOf p) × (isMarked m c ≡ true)
+      go : (t : Bool) → isMarked m (p .left) ≡ t → (t || isMarked m (p .right)) ≡ true → (c : ℕ) × (List·Memᴰ c (columnsOf p)) × (isMarked m c ≡ true)
       go true q k = (p .left, List·Memᴰ·head refl, q)
       go false q k = (p .right, List·Memᴰ·tail (List·Memᴰ·head refl), k)
 
@@ -258,7 +258,7 @@ module _ (sheet : Sheet) where
       go : (t : Bool) → touches m p ≡ t → AllTrue (cond t (withBoth m p) m)
       go true q c k =
           let o = some-mark m p q in
-          ⊎-elim (λ (x : c ∈ columnsOf p). leads-over (p .left) (p .right) (p .nullSafe) (w p (List·Memᴰ·head refl)) (o .0) c (o .1) x (h (o .0) (o .2))) (λ (x : isMarked m c ≡ true). h c x) (both-only m p c k)
+          ⊎-elim (λ (x : List·Memᴰ c (columnsOf p)). leads-over (p .left) (p .right) (p .nullSafe) (w p (List·Memᴰ·head refl)) (o .0) c (o .1) x (h (o .0) (o .2))) (λ (x : isMarked m c ≡ true). h c x) (both-only m p c k)
       go false q c k = h c k
 
   passes-true : (n : ℕ) (m : List Bool) (ps : List EqualityPair) → AllEquate ps → AllTrue m → AllTrue (passes n m ps)
@@ -297,8 +297,8 @@ module _ (sheet : Sheet) (kept : Kept sheet) where
   along r f s (no-step e) h = ap (isMarked r) e ∙ h
   along r f s (step {a = a} {b = b} (g, equated first second nullSafe e q, x, y) l) h =
       let p : EqualityPair = record { left = first; right = second; nullSafe = nullSafe } in
-      let ax : a ∈ columnsOf p = subst (λ (k : Columns). a ∈ k) (sym q) x in
-      let by : b ∈ columnsOf p = subst (λ (k : Columns). b ∈ k) (sym q) y in
+      let ax : List·Memᴰ a (columnsOf p) = subst (λ (k : Columns). List·Memᴰ a k) (sym q) x in
+      let by : List·Memᴰ b (columnsOf p) = subst (λ (k : Columns). List·Memᴰ b k) (sym q) y in
       ap (λ (m : List Bool). isMarked m a) (sym s) ∙ pass-over r pairs f p (pairs-law sheet p .1 e) b a by ax (along r f s l h)
 
   abbrev start : List Bool
@@ -325,7 +325,7 @@ module _ (sheet : Sheet) (kept : Kept sheet) where
       let begins : isMarked start c ≡ true = ordinary-marked (replicate 128 false) pairs fits p (pairs-law sheet p .1 (o .equates)) refl c (o .stands) in
       along marks (subst (λ (n : ℕ). Fits n pairs) (sym marks-size) fits) (done .still) l (done .adds c begins)
 
-  pub walk-law : (a : ℕ) → a ∈ markedColumns (nonNullMarks (equalityPairs sheet (sheet .conjuncts))) ↔ LeadsToOrdinary sheet a
+  pub walk-law : (a : ℕ) → List·Memᴰ a (markedColumns (nonNullMarks (equalityPairs sheet (sheet .conjuncts)))) ↔ LeadsToOrdinary sheet a
   unfolding markedColumns nonNullMarks
   walk-law a = (
     λ m. marks-true a (selected-in (isMarked marks) 0 128 a m .2),

@@ -15,16 +15,12 @@ use Rattle.demand.specs.Reader.{blocks, nonNulls}
 
 -- ---- sets
 
-infix 50 _∈_
-abbrev pub _∈_ {ℓ} : {A : Type ℓ} → A → List A → Type ℓ
-a ∈ l = List·Memᴰ a l
-
--- a set of columns is a list of which only the members count
+-- a set of columns is a list of which only the members count, which are told by the library's `List·Memᴰ`
 abbrev pub Columns : Type 0
 Columns = List ℕ
 
 abbrev pub Same : Columns → Columns → Type 0
-Same f g = (a : ℕ) → a ∈ f ↔ a ∈ g
+Same f g = (a : ℕ) → List·Memᴰ a f ↔ List·Memᴰ a g
 
 -- a set of sets of columns is told by which are in it
 abbrev pub Within : (Columns → Type 0) → (Columns → Type 0) → Type 0
@@ -43,7 +39,7 @@ opOf true = IsNotDistinctFrom
 -- a conjunct that names an expression which is itself binary (kind 3) with one of these operators, both its children being columns (kind 1), which may be the same
 pub record Equates (sheet : Sheet) (first second : ℕ) (nullSafe : Bool) : Type 0 where
   pub conjunct : ℕ
-  pub stands : conjunct ∈ sheet .conjuncts
+  pub stands : List·Memᴰ conjunct (sheet .conjuncts)
   pub left : ℕ
   pub right : ℕ
   pub binary : expressionOf sheet conjunct ≡ Binary (opOf nullSafe) left right
@@ -54,8 +50,8 @@ pub record Equates (sheet : Sheet) (first second : ℕ) (nullSafe : Bool) : Type
 
 -- the columns of a profile class of either side, or the one or two of an equating conjunct; neither distinct nor operator
 pub data Fact (sheet : Sheet) (f : Columns) : Type 0 where
-  of-left : (class : ColumnEquivalenceClass) → class ∈ sheet .leftClasses → class .columns ≡ f → Fact sheet f
-  of-right : (class : ColumnEquivalenceClass) → class ∈ sheet .rightClasses → class .columns ≡ f → Fact sheet f
+  of-left : (class : ColumnEquivalenceClass) → List·Memᴰ class (sheet .leftClasses) → class .columns ≡ f → Fact sheet f
+  of-right : (class : ColumnEquivalenceClass) → List·Memᴰ class (sheet .rightClasses) → class .columns ≡ f → Fact sheet f
   of-conjunct : (first second : ℕ) (nullSafe : Bool) → Equates sheet first second nullSafe → first ∷ second ∷ [] ≡ f → Fact sheet f
 
 -- the facts of equating conjuncts alone
@@ -66,7 +62,7 @@ pub data Equated (sheet : Sheet) (f : Columns) : Type 0 where
 
 -- two columns in one fact
 abbrev pub Together : (Columns → Type 0) → ℕ → ℕ → Type 0
-Together F a b = (f : Columns) × F f × (a ∈ f) × (b ∈ f)
+Together F a b = (f : Columns) × F f × List·Memᴰ a f × List·Memᴰ b f
 
 -- from column to column, neighbours together in one fact; perhaps with no step
 pub data Linked (F : Columns → Type 0) : ℕ → ℕ → Type 0 where
@@ -75,7 +71,7 @@ pub data Linked (F : Columns → Type 0) : ℕ → ℕ → Type 0 where
 
 -- a set of columns follows from facts when a chain of them links every two different ones of it
 abbrev pub Follows : (Columns → Type 0) → Columns → Type 0
-Follows G f = (a b : ℕ) → a ∈ f → b ∈ f → a ≢ b → Linked G a b
+Follows G f = (a b : ℕ) → List·Memᴰ a f → List·Memᴰ b f → a ≢ b → Linked G a b
 
 abbrev pub AllFollow : (Columns → Type 0) → (Columns → Type 0) → Type 0
 AllFollow G F = (f : Columns) → F f → Follows G f
@@ -85,7 +81,7 @@ pub record InOrdinary (sheet : Sheet) (column : ℕ) : Type 0 where
   pub first : ℕ
   pub second : ℕ
   pub equates : Equates sheet first second false
-  pub stands : column ∈ first ∷ second ∷ []
+  pub stands : List·Memᴰ column (first ∷ second ∷ [])
 
 -- equating conjuncts lead from a column, in any number or none, to a column of an ordinary one
 abbrev pub LeadsToOrdinary : Sheet → ℕ → Type 0
@@ -107,23 +103,23 @@ AlikeInEquating s t = EquatedIn s t × EquatedIn t s
 -- ---- what an answer says
 
 abbrev pub Block : List ℕ → Columns → Type 0
-Block answer k = k ∈ blocks answer
+Block answer k = List·Memᴰ k (blocks answer)
 
 abbrev pub ShareBlock : List ℕ → ℕ → ℕ → Type 0
-ShareBlock answer a b = (k : Columns) × Block answer k × (a ∈ k) × (b ∈ k)
+ShareBlock answer a b = (k : Columns) × Block answer k × List·Memᴰ a k × List·Memᴰ b k
 
 -- ---- the claim
 
 -- of one join: a sheet, and the bytes of its answer
 pub record OneJoin (sheet : Sheet) (answer : List ℕ) : Type 0 where
   -- a returned block has two columns or more
-  pub two : (k : Columns) → Block answer k → (a : ℕ) × (b : ℕ) × (a ∈ k) × (b ∈ k) × (a ≢ b)
+  pub two : (k : Columns) → Block answer k → (a : ℕ) × (b : ℕ) × List·Memᴰ a k × List·Memᴰ b k × (a ≢ b)
   -- no two blocks share a column: blocks with a common column stand at one place
-  pub apart : (i j a : ℕ) → a ∈ getD (blocks answer) i [] → a ∈ getD (blocks answer) j [] → i ≡ j
+  pub apart : (i j a : ℕ) → List·Memᴰ a (getD (blocks answer) i []) → List·Memᴰ a (getD (blocks answer) j []) → i ≡ j
   -- two different columns share a block exactly when a chain of facts links them
   pub share : (a b : ℕ) → a ≢ b → ShareBlock answer a b ↔ Linked (Fact sheet) a b
   -- a column is non-null exactly when equating conjuncts lead from it to a column of an ordinary one
-  pub nonNull : (a : ℕ) → a ∈ nonNulls answer ↔ LeadsToOrdinary sheet a
+  pub nonNull : (a : ℕ) → List·Memᴰ a (nonNulls answer) ↔ LeadsToOrdinary sheet a
 
 -- of any two joins
 pub record TwoJoins (s t : Sheet) (x y : List ℕ) : Type 0 where

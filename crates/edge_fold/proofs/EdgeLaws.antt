@@ -10,7 +10,7 @@ use lib.Ieee.{Float}
 use lib.ListN.{length, getD, set}
 use lib.Seq.{getD-set-same, getD-set-other}
 use Rattle.estimate.specs.Estimates.{maxByValue}
-use Rattle.records.specs.Lists.{tabulate}
+use Rattle.records.specs.Lists.{tabulate, itself}
 use Rattle.sheet.specs.Sheet.{Sheet, sheetOf}
 use Rattle.sheet.specs.declared.Sections.{Sections}
 use Rattle.class_state.specs.State.{ClassState}
@@ -20,7 +20,7 @@ use Rattle.class_state.proofs.DistinctLaws.{greater-is}
 use Rattle.class_state.proofs.UnionLaws.{root-distinct}
 use Rattle.equality_pairs.specs.Pairs.{pairAt, pairsIn}
 use Rattle.edge_order.specs.Sort.{sort}
-use Rattle.edge_order.specs.Order.{standsBefore, numberBefore, itself, edgeOrder}
+use Rattle.edge_order.specs.Order.{standsBefore, numberBefore, edgeOrder}
 use Rattle.edge_order.proofs.OrderLaws.{edge-order-map, map-itself}
 use Rattle.edge_fold.specs.Edges.{EqualityEdge, edgeBetween, edgeNullSafe, edgeOf, edgeBefore, equalityEdges}
 use Rattle.edge_fold.specs.Held.{edgeAt, placedEdge, heldEdge, KeysHeld}

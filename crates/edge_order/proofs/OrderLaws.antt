@@ -7,10 +7,10 @@ use native.Mathlib.Omega.{arith}
 use lib.ListN.{length, getD, drop, drop-of-length-le}
 use lib.Seq.{getD-drop}
 use lib.Ieee.{Float, lt, eq}
-use Rattle.records.specs.Lists.{tabulateFrom, tabulate}
+use Rattle.records.specs.Lists.{tabulateFrom, tabulate, itself}
 use Rattle.records.proofs.ListLaws.{tabulate-length, tabulate-in, in-tabulate, tabulate-step, tabulate-end}
 use Rattle.edge_order.specs.Sort.{insert, sort}
-use Rattle.edge_order.specs.Order.{standsBefore, numberBefore, itself, edgeOrder}
+use Rattle.edge_order.specs.Order.{standsBefore, numberBefore, edgeOrder}
 use Rattle.edge_order.proofs.SortLaws.{sort-perm, sort-in, in-sort, sort-length, sort-map-within}
 
 -- ---- two edges

@@ -5,7 +5,7 @@ use mathlib.Core.List.{List}
 use lib.ListN.{getD}
 use lib.Ieee.{Float, lt, eq}
 use Rattle.float.specs.Order.{f64Zero}
-use Rattle.records.specs.Lists.{tabulateFrom, tabulate}
+use Rattle.records.specs.Lists.{tabulateFrom, tabulate, itself}
 use Rattle.edge_order.specs.Sort.{sort}
 
 -- whether an edge of the first distinct must stand before one of the second
@@ -17,9 +17,6 @@ standsBefore distinct nullSafe other otherNullSafe = lt other distinct || (eq ot
 unfoldable pub numberBefore : List Float → List Bool → ℕ → ℕ → Bool
 unfolding standsBefore
 numberBefore distincts nullSafes i j = standsBefore (getD distincts i f64Zero) (getD nullSafes i false) (getD distincts j f64Zero) (getD nullSafes j false)
-
-abbrev pub itself : ℕ → ℕ
-itself i = i
 
 unfoldable pub edgeOrder : List Float → List Bool → ℕ → List ℕ
 unfolding sort numberBefore tabulateFrom

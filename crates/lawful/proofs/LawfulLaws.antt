@@ -41,22 +41,39 @@ use Rattle.lawful.proofs.ClassLaws.{class-lawful}
 use Rattle.lawful.proofs.ExpressionLaws.{expression-lawful}
 use Rattle.lawful.proofs.OperandLaws.{operands-lawful}
 
-module _ (s : List ℕ) (bytes : Bytes s) (kept : sheetRefusal s ≡ 0) where
+-- ---- what holds whether or not the numbers are bytes
+
+module _ (s : List ℕ) (kept : sheetRefusal s ≡ 0) where
   count-kept : (k : ℕ) → k < sectionCount → countWithin (kindAt k) (u16At s (sectionAt s k)) ≡ true
   unfolding countRefusal
   count-kept k l =
       let start : ℕ = sectionAt s k in
       ask-kept (countWithin (kindAt k) (u16At s start)) 3 (omega arith) (else-first _ _ (else-second (whole 2 s start) _ (accepted-count s kept k l)))
 
+  pub left-classes : Each LawfulClass (recordsIn Classes classAt s (sectionAt s 7))
+  unfolding recordRefusal
+  left-classes = each-record LawfulClass Classes classAt s (sectionAt s 7) (λ i l. class-lawful s _ (accepted-record s kept 7 (omega arith) i l))
+
+  pub right-classes : Each LawfulClass (recordsIn Classes classAt s (sectionAt s 8))
+  unfolding recordRefusal
+  right-classes = each-record LawfulClass Classes classAt s (sectionAt s 8) (λ i l. class-lawful s _ (accepted-record s kept 8 (omega arith) i l))
+
+  pub conjunct-count : length (recordsIn Conjuncts u16At s (sectionAt s 11)) ≤ 64
+  unfolding countWithin
+  conjunct-count = subst (λ (n : ℕ). n ≤ 64) (sym (records-length Conjuncts u16At s (sectionAt s 11))) (leb-true (u16At s (sectionAt s 11)) 64 (count-kept 11 (omega arith)))
+
+-- ---- of bytes
+
+module _ (s : List ℕ) (bytes : Bytes s) (kept : sheetRefusal s ≡ 0) where
   -- ---- rows and settings
 
   two-rows : u16At s (sectionAt s 0) ≡ 2
   unfolding countWithin
-  two-rows = eqb-true (u16At s (sectionAt s 0)) 2 (count-kept 0 (omega arith))
+  two-rows = eqb-true (u16At s (sectionAt s 0)) 2 (count-kept s kept 0 (omega arith))
 
   five-settings : u16At s (sectionAt s 1) ≡ 5
   unfolding countWithin
-  five-settings = eqb-true (u16At s (sectionAt s 1)) 5 (count-kept 1 (omega arith))
+  five-settings = eqb-true (u16At s (sectionAt s 1)) 5 (count-kept s kept 1 (omega arith))
 
   rows : (i : ℕ) → i < 2 → LawfulEstimate (estimateAt s (recordAt Rows s (sectionAt s 0) i))
   unfolding recordRefusal
@@ -91,16 +108,6 @@ module _ (s : List ℕ) (bytes : Bytes s) (kept : sheetRefusal s ≡ 0) where
   unfolding recordRefusal
   right-columns = each-record (LawfulProfile n) Columns columnProfileAt s (sectionAt s 6) (λ i l. column i _ (accepted-record s kept 6 (omega arith) i l))
 
-  -- ---- classes
-
-  left-classes : Each LawfulClass (recordsIn Classes classAt s (sectionAt s 7))
-  unfolding recordRefusal
-  left-classes = each-record LawfulClass Classes classAt s (sectionAt s 7) (λ i l. class-lawful s _ (accepted-record s kept 7 (omega arith) i l))
-
-  right-classes : Each LawfulClass (recordsIn Classes classAt s (sectionAt s 8))
-  unfolding recordRefusal
-  right-classes = each-record LawfulClass Classes classAt s (sectionAt s 8) (λ i l. class-lawful s _ (accepted-record s kept 8 (omega arith) i l))
-
   -- ---- expressions, operands and conjuncts
 
   -- where the expressions' count stands
@@ -134,15 +141,11 @@ module _ (s : List ℕ) (bytes : Bytes s) (kept : sheetRefusal s ≡ 0) where
 
   expression-count : length all ≤ 256
   unfolding countWithin
-  expression-count = subst (λ (n : ℕ). n ≤ 256) (sym how-many) (leb-true (u16At s x) 256 (count-kept 9 (omega arith)))
+  expression-count = subst (λ (n : ℕ). n ≤ 256) (sym how-many) (leb-true (u16At s x) 256 (count-kept s kept 9 (omega arith)))
 
   operand-count : length (recordsIn Operands u16At s (sectionAt s 10)) ≤ 512
   unfolding countWithin
-  operand-count = subst (λ (n : ℕ). n ≤ 512) (sym (records-length Operands u16At s (sectionAt s 10))) (leb-true (u16At s (sectionAt s 10)) 512 (count-kept 10 (omega arith)))
-
-  conjunct-count : length (recordsIn Conjuncts u16At s (sectionAt s 11)) ≤ 64
-  unfolding countWithin
-  conjunct-count = subst (λ (n : ℕ). n ≤ 64) (sym (records-length Conjuncts u16At s (sectionAt s 11))) (leb-true (u16At s (sectionAt s 11)) 64 (count-kept 11 (omega arith)))
+  operand-count = subst (λ (n : ℕ). n ≤ 512) (sym (records-length Operands u16At s (sectionAt s 10))) (leb-true (u16At s (sectionAt s 10)) 512 (count-kept s kept 10 (omega arith)))
 
   -- ---- the sheet
 
@@ -155,12 +158,12 @@ module _ (s : List ℕ) (bytes : Bytes s) (kept : sheetRefusal s ≡ 0) where
     sketches = sketches;
     leftColumns = left-columns;
     rightColumns = right-columns;
-    leftClasses = left-classes;
-    rightClasses = right-classes;
+    leftClasses = left-classes s kept;
+    rightClasses = right-classes s kept;
     expressionCount = expression-count;
     expressions = expressions;
     operandCount = operand-count;
     operands = operands;
-    conjunctCount = conjunct-count;
+    conjunctCount = conjunct-count s kept;
     conjuncts = conjuncts;
   }

@@ -43,7 +43,8 @@ trackedRows (x ∷ xs) = x .lower + trackedRows xs
 abbrev half : Float
 half = fin false 1 (negsuc 0)
 
-abbrev count : ℕ → Float
+-- a whole number, rounded once
+abbrev pub count : ℕ → Float
 count n = ofInt binary64 (pos n)
 
 -- of an item: the middle of what it may count

@@ -15,16 +15,13 @@ use Rattle.scalar_bytes.specs.Reading.{scalarAt}
 use Rattle.records.specs.Sketches.{sketchItemAt, sketchItem, sketchAt}
 use Rattle.records.specs.declared.sketches.SketchItem.{SketchItem}
 use Rattle.records.proofs.ListLaws.{tabulate-step, tabulate-end}
-use Rattle.sketch.specs.Frequent.{findItem}
+use Rattle.sketch.specs.Frequent.{findItem, count}
 use Rattle.sketch.specs.declared.items.FoundItem.{FoundItem}
 use Rattle.sketch.specs.declared.items.FoundItem.the-variants.{Absent, Present}
 use Rattle.sketch.proofs.ItemLaws.{itemsFrom, items-all}
 use Rattle.sketch_join.specs.SketchJoin.{withCommon, commonFrom, commonValues, withMatched, matchedFrom, matchedValues}
 use Rattle.sketch_join.specs.declared.sums.CommonValues.{CommonValues}
 use Rattle.sketch_join.specs.declared.sums.MatchedValues.{MatchedValues}
-
-abbrev count : ℕ → Float
-count n = ofInt binary64 (pos n)
 
 -- ---- for pairs of rows
 

@@ -3,8 +3,7 @@ use Prim.Native.Nat.{ℕ, _+_}
 use mathlib.Core.Bool.{Bool, _&&_, _||_, cond}
 use mathlib.Core.List.{List, [], _∷_}
 use lib.Dec.{eqb, ltb}
-use lib.IntN.{pos}
-use lib.Ieee.{Float, binary64, ofInt, add, sub, mul, div, lt, le}
+use lib.Ieee.{Float, binary64, add, sub, mul, div, lt, le}
 use Rattle.float.specs.Order.{f64Zero, f64One, f64Max, f64Min, clampUnit}
 use Rattle.float.specs.Option.{some, none}
 use Rattle.float.specs.declared.option.OptionF64.{OptionF64}
@@ -13,15 +12,12 @@ use Rattle.records.specs.declared.sketches.SketchItem.{SketchItem}
 use Rattle.records.specs.declared.columns.ColumnProfile.{ColumnProfile}
 use Rattle.records.specs.declared.columns.SketchNumber.{SketchNumber}
 use Rattle.records.specs.declared.columns.SketchNumber.the-variants.{Absent as NoSketch, Present as SketchNo}
-use Rattle.sketch.specs.Frequent.{sketchOf, findItem}
+use Rattle.sketch.specs.Frequent.{sketchOf, findItem, count}
 use Rattle.sketch.specs.declared.items.FoundItem.{FoundItem}
 use Rattle.sketch.specs.declared.items.FoundItem.the-variants.{Absent, Present}
 use Rattle.range.specs.Selectivity.{nonNullFraction}
 use Rattle.sketch_join.specs.declared.sums.CommonValues.{CommonValues}
 use Rattle.sketch_join.specs.declared.sums.MatchedValues.{MatchedValues}
-
-abbrev count : ℕ → Float
-count n = ofInt binary64 (pos n)
 
 -- the rows of a sketch in which its column is not null
 unfoldable pub nonNullRows : Sketch → ColumnProfile → Float → Float

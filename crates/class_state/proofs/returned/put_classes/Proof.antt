@@ -10,7 +10,7 @@ use Rattle.records.specs.Lists.{tabulate}
 use Rattle.class_state.specs.State.{columnLimit}
 use Rattle.class_state.specs.Sizes.{memberCount}
 use Rattle.class_state.proofs.CountLaws.{count-at}
-use Rattle.class_state.proofs.FilledLaws.{Filled, filled-first, filled-within, filled-room, filled-part, filled-next, filled-length, filled-all}
+use Rattle.number_bytes.proofs.FilledLaws.{Filled, filled-first, filled-within, filled-room, filled-part, filled-next, filled-length, filled-all}
 use Rattle.class_state.proofs.ReturnedLaws.{bytesLeft, returnedBytes, returned-length, bytes-left-first, bytes-left-size, bytes-left-room, bytes-left-next, bytes-left-none}
 use Rattle.class_state.proofs.returned.put_classes.Statement.{statement}
 use Rattle.class_state.proofs.returned.put_classes.Tie as tie
