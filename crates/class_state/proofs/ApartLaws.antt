@@ -1,8 +1,8 @@
 -- The state of columns that are all alone. Assumes nothing.
-use Prim.Native.Nat.{ℕ, zero, suc, _+_, _-_, _*_, _≤_, _<_}
+use Prim.Native.Nat.{ℕ, zero, suc, _+_, _-_, _≤_, _<_}
 use mathlib.Core.Path.{_≡_, refl, sym, ap, _∙_, subst}
 use mathlib.Core.Bool.{Bool, true, false, cond}
-use mathlib.Core.List.{List, [], _∷_, map}
+use mathlib.Core.List.{List, map}
 use native.Mathlib.Omega.{arith}
 use borrow.Author.Tests.{eqb-true, eqb-false}
 use lib.Dec.{eqb, ltb}
@@ -11,7 +11,6 @@ use lib.Ieee.{Float}
 use lib.ListN.{length, getD, set, replicate, length-set, length-map, length-replicate, getD-replicate, List·getD-map}
 use lib.Seq.{getD-set-same, getD-set-other, ext-getD}
 use Rattle.le.specs.Fields.{u16At}
-use Rattle.estimate.specs.Bytes.{estimateAt}
 use Rattle.estimate.specs.declared.Estimate.{Estimate}
 use Rattle.records.specs.Lists.{tabulateFrom, tabulate, itself}
 use Rattle.records.specs.Columns.{columnProfileAt}
@@ -24,7 +23,7 @@ use Rattle.sheet.proofs.PlaceLaws.{columns-fixed, fixed-place}
 use Rattle.lookup.specs.Lookup.{profileIn, orElseProfile, leftProfile, rightProfile, profileAndRows}
 use Rattle.lookup.specs.declared.profiles.ProfileAndRows.{ProfileAndRows}
 use Rattle.lookup.specs.declared.profiles.ProfileAndRows.the-variants.{Absent, Present}
-use Rattle.class_state.specs.State.{ClassState, columnLimit, unknownDistinct, ownDistinct, columnDistinct, apart}
+use Rattle.class_state.specs.State.{columnLimit, unknownDistinct, ownDistinct, columnDistinct, apart}
 use Rattle.class_state.specs.Places.{distinctAt, stateOf}
 use Rattle.class_state.specs.Noted.{profilePlace, notedFrom, noted}
 use Rattle.class_state.proofs.DistinctLaws.{distinct-none, distinct-there}

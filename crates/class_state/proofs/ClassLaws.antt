@@ -1,15 +1,14 @@
 -- The classes of a profile, united one by one. Assumes nothing.
 use Prim.Native.Nat.{ℕ, zero, suc, _+_, _-_, _*_, _≤_, _<_}
 use mathlib.Core.Path.{_≡_, refl, sym, ap, _∙_}
-use mathlib.Core.List.{List, [], _∷_}
+use mathlib.Core.List.{List}
 use native.Mathlib.Omega.{arith}
 use native.Mathlib.Nat.{add-zero, sub-zero}
 use lib.ListN.{getD, set}
 use Rattle.le.specs.Fields.{u16At}
-use Rattle.estimate.specs.Bytes.{estimateAt}
 use Rattle.estimate.specs.declared.Estimate.{Estimate}
 use Rattle.records.specs.Lists.{tabulateFrom, tabulate}
-use Rattle.records.specs.Classes.{ColumnEquivalenceClass, classHeadAt, classColumn, classAt}
+use Rattle.records.specs.Classes.{classHeadAt, classColumn, classAt}
 use Rattle.records.proofs.ListLaws.{tabulate-step, tabulate-end}
 use Rattle.sheet.specs.Order.{recordEnd, recordAt}
 use Rattle.sheet.specs.Sheet.{recordIn, recordsIn, sheetOf}

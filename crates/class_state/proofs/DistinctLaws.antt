@@ -1,5 +1,5 @@
 -- The estimates that places stand for. Assumes nothing.
-use Prim.Native.Nat.{ℕ, zero, suc, _+_, _-_, _≤_, min}
+use Prim.Native.Nat.{ℕ, zero, suc, _-_, min}
 use mathlib.Core.Path.{_≡_, refl, sym, ap, _∙_}
 use mathlib.Core.Bool.{Bool, true, false, cond}
 use mathlib.Core.List.{List, [], _∷_}
@@ -7,10 +7,9 @@ use native.Mathlib.Omega.{arith}
 use native.Mathlib.Nat.{add-zero}
 use borrow.Author.Tests.{eq-eqb, ne-eqb}
 use lib.Dec.{eqb}
-use lib.Ieee.{Float, binary64, ofBits, le}
+use lib.Ieee.{le}
 use lib.ListN.{length, getD, take, drop, length-drop}
 use lib.Seq.{take-all, drop-nil, getD-drop}
-use Rattle.le.specs.Fields.{fieldAt, u64At}
 use Rattle.le.specs.Floats.{f64At}
 use Rattle.le.proofs.FieldLaws.{field-drop}
 use Rattle.estimate.specs.Bytes.{estimateAt}

@@ -9,7 +9,7 @@ use Rattle.estimate.specs.Estimates.{minByValue}
 use Rattle.estimate.specs.declared.Estimate.{Estimate}
 use Rattle.sheet.specs.Sheet.{sheetOf}
 use Rattle.sheet.specs.declared.Sections.{Sections}
-use Rattle.class_state.specs.State.{ClassState, moved, rootDistinct, under, union, unknownDistinct}
+use Rattle.class_state.specs.State.{moved, rootDistinct, under, union}
 use Rattle.class_state.specs.Places.{distinctAt, stateOf}
 use Rattle.class_state.specs.Chosen.{lesserPlace}
 use Rattle.class_state.proofs.DistinctLaws.{distinct-none, lesser-is}

@@ -5,7 +5,7 @@ use mathlib.Core.List.{List, map}
 use lib.Dec.{eqb}
 use Rattle.estimate.specs.Bytes.{estimateAt}
 use Rattle.estimate.specs.declared.Estimate.{Estimate}
-use Rattle.sheet.specs.Sheet.{Sheet, sheetOf}
+use Rattle.sheet.specs.Sheet.{sheetOf}
 use Rattle.sheet.specs.declared.Sections.{Sections}
 use Rattle.class_state.specs.State.{ClassState, unknownDistinct}
 

@@ -13,7 +13,7 @@ use Rattle.equality_pairs.specs.Pairs.{EqualityPair, equalityPairs}
 use Rattle.equality_pairs.specs.NonNull.{nonNullMarks}
 use Rattle.edge_order.proofs.SortLaws.{sort-in, in-sort}
 use Rattle.edge_fold.specs.Edges.{EqualityEdge, edgeBetween, edgeOf, edgeBefore, equalityEdges}
-use Rattle.edge_fold.specs.Fold.{noEquality, withEdges, foldedPairs}
+use Rattle.edge_fold.specs.Fold.{noEquality, foldedPairs}
 use Rattle.demand.specs.Claim.{Columns, Equates, Fact, of-left, of-right, of-conjunct, Linked, no-step, step}
 use Rattle.demand.proofs.Kept.{Kept}
 use Rattle.demand.proofs.KeptLaws.{pairs-law}

@@ -1,10 +1,10 @@
 -- What a join's answer is read back as: the blocks are its classes' columns, the non-null columns are its own. What stands from a place on is what is left behind the bytes before it. Assumes nothing.
-use Prim.Native.Nat.{ℕ, suc, _+_, _*_, _<_}
+use Prim.Native.Nat.{ℕ, _+_, _*_, _<_}
 use mathlib.Core.Path.{_≡_, refl, sym, ap, _∙_}
 use mathlib.Core.List.{List, [], _∷_, _++_, map, append-assoc, append-nil, List·Memᴰ, List·Memᴰ·head, List·Memᴰ·tail}
 use native.Mathlib.Omega.{arith}
 use native.Mathlib.Nat.{add-zero}
-use lib.ListN.{length, drop, length-append}
+use lib.ListN.{length, drop}
 use lib.Seq.{drop-at, drop-drop}
 use Rattle.le.specs.Fields.{fieldBytes, u16At, u16Bytes}
 use Rattle.le.proofs.FieldLaws.{bytes-length, field-found}
@@ -15,7 +15,6 @@ use Rattle.number_bytes.proofs.NumberLaws.{numbers-length}
 use Rattle.records.specs.Lists.{tabulateFrom, tabulate}
 use Rattle.records.specs.Classes.{ColumnEquivalenceClass, classHeadAt, classColumn, classAt}
 use Rattle.class_state.specs.Bytes.{classBytes, classesBytes}
-use Rattle.edge.specs.declared.LeftEqualityCoverage.{LeftEqualityCoverage}
 use Rattle.join.specs.Join.{JoinSelectivityEstimate}
 use Rattle.edge_fold.specs.Coverages.{coveragesBytes}
 use Rattle.edge_fold.proofs.CoverageLaws.{coverages-length}

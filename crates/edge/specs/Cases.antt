@@ -1,7 +1,7 @@
 -- Worked equalities: those that document 01 marks, at one edge, and a foreign key. Assumes nothing.
 use Prim.Native.Nat.{ℕ}
 use mathlib.Core.Path.{_≡_, refl}
-use mathlib.Core.Bool.{Bool, true, false}
+use mathlib.Core.Bool.{true, false}
 use mathlib.Core.List.{List, [], _∷_}
 use lib.IntN.{pos, negsuc}
 use lib.Ieee.{Float, binary64, fin, round, ofInt, add, sub, mul, div, lt, le, eq}
@@ -9,14 +9,12 @@ use Rattle.float.specs.Order.{f64Zero, f64One}
 use Rattle.float.specs.Option.{none}
 use Rattle.scalar.specs.Order.{scalarOrder}
 use Rattle.scalar.specs.declared.Scalar.the-variants.{Int32}
-use Rattle.scalar.specs.declared.Bound.{Bound}
 use Rattle.scalar.specs.declared.Bound.the-variants.{Absent, Present}
 use Rattle.estimate.specs.declared.Estimate.{Estimate}
 use Rattle.estimate.specs.declared.EstimateSource.the-variants.{Catalog}
 use Rattle.records.specs.declared.catalog.Key.{Key}
 use Rattle.records.specs.declared.catalog.Key.the-variants.{Foreign}
 use Rattle.records.specs.declared.catalog.RowCount.the-variants.{Known}
-use Rattle.records.specs.declared.columns.BaseColumn.{BaseColumn}
 use Rattle.records.specs.declared.columns.BaseColumn.the-variants.{Absent as NoBase, Present as Base}
 use Rattle.records.specs.declared.columns.SketchNumber.the-variants.{Absent as NoSketch}
 use Rattle.records.specs.declared.columns.ColumnProfile.{ColumnProfile}

@@ -1,6 +1,5 @@
 -- The figures of an equality, case by case (`equality_edge_estimate` in the source's analysis.rs). Definitions only.
-use Prim.Native.Nat.{ℕ}
-use mathlib.Core.Bool.{Bool, true, false, _||_, not, cond}
+use mathlib.Core.Bool.{true, false, _||_, not, cond}
 use lib.Ieee.{Float, binary64, add, mul, div, lt, le}
 use Rattle.float.specs.Order.{f64Zero, f64Max, clampUnit}
 use Rattle.float.specs.declared.option.OptionF64.{OptionF64}

@@ -1,5 +1,5 @@
 -- A join has no more coverages than pairs of columns: an edge gives one at most. Assumes nothing.
-use Prim.Native.Nat.{ℕ, _+_, _≤_}
+use Prim.Native.Nat.{_+_, _≤_}
 use mathlib.Core.Bool.{Bool, true, false, cond}
 use mathlib.Core.List.{List, [], _∷_, map}
 use native.Mathlib.Omega.{arith}

@@ -1,9 +1,9 @@
 -- The pairs of columns that conjuncts equate (`equality_pairs` in the source's analysis.rs). Definitions only.
 use Prim.Native.Nat.{ℕ}
-use mathlib.Core.Bool.{Bool, true, false}
+use mathlib.Core.Bool.{Bool, false}
 use mathlib.Core.List.{List, [], _∷_, _++_}
 use lib.ListN.{getD}
-use Rattle.records.specs.Lists.{tabulateFrom, tabulate}
+use Rattle.records.specs.Lists.{tabulate}
 use Rattle.records.specs.declared.expressions.Expression.{Expression}
 use Rattle.records.specs.declared.expressions.Expression.the-variants.{Literal, ColumnRef, Unary, Binary, Nary, Like, Other}
 use Rattle.sheet.specs.Sheet.{Sheet}

@@ -10,7 +10,6 @@ use Rattle.float.specs.Option.{some, none}
 use Rattle.le.specs.Fields.{fieldAt, fieldBytes}
 use Rattle.estimate.specs.Estimates.{clampToBounds, derived}
 use Rattle.estimate.specs.Bytes.{estimateAt, estimateRefusal, estimateBytes}
-use Rattle.estimate.specs.declared.Estimate.{Estimate}
 use Rattle.estimate.specs.declared.EstimateSource.the-variants.{Catalog}
 
 abbrev certain : List ℕ

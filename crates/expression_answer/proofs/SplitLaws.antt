@@ -1,13 +1,12 @@
 -- The bytes of a split's answer: a count, then the numbers. Assumes nothing.
-use Prim.Native.Nat.{ℕ, _+_, _-_, _*_, _/_, _%_, _≤_, _<_}
-use mathlib.Core.Path.{_≡_, refl, sym, ap, _∙_}
+use Prim.Native.Nat.{ℕ, _+_, _-_, _*_, _%_, _≤_, _<_}
+use mathlib.Core.Path.{_≡_, sym, ap, _∙_}
 use mathlib.Core.Bool.{Bool, true, false}
 use mathlib.Core.List.{List, _++_}
-use native.Mathlib.Omega.{arith}
 use borrow.Author.Tests.{leb-true, leb-false}
 use lib.Dec.{leb}
 use lib.ListN.{length, take, drop, length-append}
-use Rattle.le.specs.Fields.{fieldBytes, u16Bytes, onto}
+use Rattle.le.specs.Fields.{u16Bytes, onto}
 use Rattle.le.proofs.FieldLaws.{bytes-length}
 use Rattle.le.proofs.OntoLaws.{onto-part}
 use Rattle.sheet.specs.Sheet.{Sheet}

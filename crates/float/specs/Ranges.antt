@@ -1,5 +1,5 @@
 -- Ranges of floats. Definitions only.
-use Prim.Native.Nat.{ℕ, zero, suc}
+use Prim.Native.Nat.{zero, suc}
 use mathlib.Core.Bool.{Bool, true, false, _&&_, _||_}
 use lib.Ieee.{Float, nan, inf, fin, le}
 

@@ -1,16 +1,16 @@
 -- How long a join's answer can be. Assumes nothing.
 use Prim.Native.Nat.{ℕ, _+_, _*_, _≤_}
-use mathlib.Core.Path.{_≡_, refl}
+use mathlib.Core.Path.{_≡_}
 use mathlib.Core.List.{List, _++_}
 use native.Mathlib.Omega.{arith}
 use lib.ListN.{length, length-append}
-use Rattle.le.specs.Fields.{fieldBytes, u16Bytes}
+use Rattle.le.specs.Fields.{u16Bytes}
 use Rattle.le.proofs.FieldLaws.{bytes-length}
 use Rattle.number_bytes.specs.Numbers.{numbersBytes}
 use Rattle.number_bytes.proofs.NumberLaws.{numbers-length}
 use Rattle.sheet.specs.Sheet.{Sheet}
 use Rattle.class_state.specs.Bytes.{classesBytes}
-use Rattle.class_state.specs.State.{ClassState, intoClasses}
+use Rattle.class_state.specs.State.{ClassState}
 use Rattle.class_state.proofs.SizeLaws.{classes-size, classes-size-below}
 use Rattle.equality_pairs.specs.Pairs.{EqualityPair, equalityPairs}
 use Rattle.equality_pairs.specs.NonNull.{nonNullMarks}

@@ -1,7 +1,6 @@
 -- A reply of the program: the answer always fits its buffer, so what it writes is the answer, or FF and the number of the sheet's own refusal. Assumes nothing.
 use Prim.Native.Nat.{ℕ, _≤_}
-use mathlib.Core.Path.{_≡_, refl, sym, ap, _∙_}
-use mathlib.Core.Bool.{Bool, true, false, cond}
+use mathlib.Core.Path.{_≡_, refl, ap, _∙_}
 use mathlib.Core.List.{List, [], _∷_}
 use native.Mathlib.Omega.{arith}
 use borrow.Author.Tests.{le-leb}
@@ -17,7 +16,6 @@ use Rattle.sheet.specs.declared.Checked.{Checked}
 use Rattle.sheet.specs.declared.Checked.the-variants.{Refused as SheetRefused, Accepted}
 use Rattle.sheet.proofs.AcceptedLaws.{accepted}
 use Rattle.answers.specs.Answers.{Result, refusal, bytes, answered, leaves, Comes, sheetResult}
-use Rattle.answers.specs.declared.Answer.{Answer}
 use Rattle.answers.specs.declared.Answer.the-variants.{Refused, Written}
 use Rattle.join_answer.specs.Join.{joinBytes, joinOf, joinResult}
 use Rattle.join_parts.proofs.ConjunctLaws.{accepted-conjuncts}

@@ -3,7 +3,7 @@ ghost use mathlib.Core.Path.{_≡_};
 ghost use Rattle.records.specs.Columns.{columnProfileAt};
 ghost use Rattle.sheet.specs.Sheet.{sheetOf, recordsIn};
 ghost use Rattle.sheet.specs.declared.order.Kind.the-variants.{Columns};
-ghost use Rattle.lookup.specs.Lookup.{profileIn, leftProfile, rightProfile, orElseProfile, profileAndRows};
+ghost use Rattle.lookup.specs.Lookup.{profileIn, leftProfile, rightProfile, profileAndRows};
 use le::floats::f64_at;
 use le::reads::u16_at;
 use records::columns::ColumnProfile;

@@ -2,8 +2,8 @@
 use Prim.Native.Nat.{ℕ}
 use mathlib.Core.Bool.{false}
 use mathlib.Core.List.{List, [], _∷_}
-use lib.IntN.{ℤ, pos, negsuc}
-use lib.Ieee.{Float, binary64, fin, round}
+use lib.IntN.{pos, negsuc}
+use lib.Ieee.{binary64, fin, round}
 use Rattle.float.specs.Option.{none}
 use Rattle.scalar.specs.declared.Scalar.the-variants.{Int32}
 use Rattle.scalar.specs.declared.Bound.{Bound}
@@ -13,7 +13,6 @@ use Rattle.estimate.specs.declared.EstimateSource.the-variants.{Catalog}
 use Rattle.records.specs.declared.columns.BaseColumn.the-variants.{Absent as NoBase}
 use Rattle.records.specs.declared.columns.SketchNumber.the-variants.{Absent as NoSketch}
 use Rattle.records.specs.declared.columns.ColumnProfile.{ColumnProfile}
-use Rattle.records.specs.declared.expressions.BinaryOp.{BinaryOp}
 use Rattle.records.specs.declared.expressions.BinaryOp.the-variants.{Eq, IsNotDistinctFrom}
 use Rattle.records.specs.declared.expressions.NaryOp.the-variants.{And, Or}
 use Rattle.records.specs.declared.expressions.Expression.{Expression}

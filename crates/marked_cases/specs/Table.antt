@@ -1,6 +1,6 @@
 -- The cases that document 01 marks with P ("Marked sums"), a line each: what the definitions give, and what document 01 says. Definitions only.
 use Prim.Native.Nat.{ℕ, _-_}
-use mathlib.Core.Bool.{true, false}
+use mathlib.Core.Bool.{false}
 use mathlib.Core.List.{List, [], _∷_}
 use lib.IntN.{pos, negsuc}
 use lib.Ieee.{Float, binary64, fin, round}

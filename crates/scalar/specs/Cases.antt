@@ -1,7 +1,7 @@
 -- Worked numbers of scalars: the bits are those that Rust's division by `powi` and its cast print. Assumes nothing.
 use mathlib.Core.Path.{_≡_, refl}
 use Prim.Native.Nat.{ℕ}
-use mathlib.Core.Bool.{true, false}
+use mathlib.Core.Bool.{true}
 use lib.IntN.{pos, negsuc}
 use lib.Ieee.{binary64, toBits, ofInt, div}
 use Rattle.float.specs.Tens.{powerOfTen}

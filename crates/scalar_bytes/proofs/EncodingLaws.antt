@@ -8,7 +8,7 @@ use native.Mathlib.Omega.{arith}
 use native.Mathlib.Nat.{add-zero, mod-eq-of-lt}
 use borrow.Author.Tests.{ltb-true, lt-ltb, leb-true, eqb-true, eq-eqb}
 use lib.Dec.{T, eqb, ltb, leb, lit<}
-use lib.IntN.{ℤ, pos, negsuc}
+use lib.IntN.{ℤ}
 use lib.ListN.{length, take, drop}
 use lib.Signed.{mag}
 use lib.Ieee.{Float, nan, inf, fin, binary64, fits, le, neg, isNan, toBits}

@@ -5,12 +5,11 @@ use mathlib.Core.Bool.{Bool, true, false, cond}
 use mathlib.Core.List.{List}
 use native.Mathlib.Omega.{arith}
 use native.Mathlib.Nat.{suc-mul, mul-div-cancel, zero-lt-suc}
-use lib.Dec.{eqb, T, eqb→eq}
+use lib.Dec.{eqb}
 use lib.IntN.{pos, negsuc}
 use borrow.Author.Tests.{eq-eqb, ne-eqb, lt-ltb, le-ltb, eqb-true, eqb-false}
 use Rattle.le.specs.Fields.{fieldAt}
 use Rattle.signed.specs.Signed.{signed, unsigned}
-use Rattle.le.specs.Integers.{i64At}
 use Rattle.le.proofs.FieldLaws.{field-split}
 use Rattle.scalar_bytes.specs.Reading.{signExtended}
 

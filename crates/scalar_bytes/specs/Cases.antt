@@ -1,8 +1,7 @@
 -- Worked scalars, by the byte patterns that Rust's `to_le_bytes` prints, each written and read. Assumes nothing.
 use mathlib.Core.Path.{_≡_, refl}
-use Prim.Native.Nat.{ℕ}
-use mathlib.Core.Bool.{true, false}
-use mathlib.Core.List.{List, [], _∷_}
+use mathlib.Core.Bool.{true}
+use mathlib.Core.List.{[], _∷_}
 use lib.IntN.{pos, negsuc}
 use lib.Ieee.{fin, ofBits, toBits, le, neg}
 use Rattle.signed.specs.Signed.{signed, unsigned}

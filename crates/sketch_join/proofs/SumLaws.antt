@@ -5,10 +5,9 @@ use mathlib.Core.Bool.{Bool, true, false, _&&_}
 use mathlib.Core.List.{List}
 use native.Mathlib.Omega.{arith}
 use native.Mathlib.Nat.{le-refl}
-use lib.IntN.{pos}
 use lib.ListN.{length}
 use lib.Dec.{ltb}
-use lib.Ieee.{Float, binary64, ofInt, add, mul, lt}
+use lib.Ieee.{binary64, add, mul, lt}
 use Rattle.float.specs.Order.{f64Zero, f64One}
 use Rattle.le.specs.Fields.{u64At}
 use Rattle.scalar_bytes.specs.Reading.{scalarAt}

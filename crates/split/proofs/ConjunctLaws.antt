@@ -1,5 +1,5 @@
 -- Laws of conjuncts: what an expression gives, and the operands of a run one by one. Assumes nothing.
-use Prim.Native.Nat.{ℕ, suc, _+_, _-_, _*_, _≤_, _<_, _^_, min}
+use Prim.Native.Nat.{ℕ, _+_, _-_, _*_, _≤_, _<_, _^_, min}
 use mathlib.Core.Path.{_≡_, refl, sym, ap, _∙_}
 use mathlib.Core.List.{List, [], _∷_, _++_, append-nil, append-assoc}
 use native.Mathlib.Omega.{arith}
@@ -13,7 +13,7 @@ use Rattle.lookup.specs.Lookup.{expressionOf, operandIn, operandsOf}
 use Rattle.lookup.specs.Recursion.{below, byNumber}
 use Rattle.lookup.proofs.LookupLaws.{operands-from}
 use Rattle.lookup.proofs.RecursionLaws.{below-is, below-not}
-use Rattle.le.specs.Fields.{fieldBytes, u16Bytes, onto}
+use Rattle.le.specs.Fields.{onto}
 use Rattle.le.proofs.OntoLaws.{onto-part, onto-length}
 use Rattle.number_bytes.specs.Numbers.{numbersBytes}
 use Rattle.number_bytes.proofs.NumberLaws.{numbers-length, numbers-append}

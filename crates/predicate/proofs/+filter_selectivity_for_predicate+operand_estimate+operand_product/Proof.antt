@@ -29,12 +29,8 @@ use Rattle.predicate.proofs.leaves.literal_estimate.Reads as literal-es
 use Rattle.predicate.proofs.leaves.nary_estimate.Reads as nary-estimate-reads
 use Rattle.predicate.proofs.leaves.operand_factor.Reads as operand-factor-reads
 use Rattle.range.proofs.selectivity.default_estimate.Reads as default-estimate-reads
-use Rattle.predicate.proofs.+filter_selectivity_for_predicate+operand_estimate+operand_product.{
-  statement,
-}
-use Rattle.predicate.proofs.+filter_selectivity_for_predicate+operand_estimate+operand_product.Tie.{
-  close,
-}
+use Rattle.predicate.proofs.+filter_selectivity_for_predicate+operand_estimate+operand_product.{statement}
+use Rattle.predicate.proofs.+filter_selectivity_for_predicate+operand_estimate+operand_product.Tie.{close}
 
 abbrev μ-filter-selectivity-for-predicate : Measures 1 filter-selectivity-for-predicate-kinds.ps ℕ
 μ-filter-selectivity-for-predicate κs a = 3 * a .1 .1 .0 + 2

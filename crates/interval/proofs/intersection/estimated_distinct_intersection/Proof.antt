@@ -2,9 +2,7 @@ use Rattle.interval.specs.Intersection.{estimatedDistinctIntersection}
 use lib.Ieee.{ofBits}
 use mathlib.Core.Path.{refl}
 use borrow.Author.Needs.{needs}
-use Rattle.interval.proofs.intersection.estimated_distinct_intersection.Statement.{
-  statement,
-}
+use Rattle.interval.proofs.intersection.estimated_distinct_intersection.Statement.{statement}
 use Rattle.interval.proofs.intersection.estimated_distinct_intersection.Tie as tie
 
 either-requires : tie.Need-either-requires

@@ -26,12 +26,8 @@ use Rattle.lookup.proofs.numbers.operand_in.Reads as operand-in-reads
 use Rattle.lookup.proofs.numbers.run_end.Reads as run-end-reads
 use Rattle.split.proofs.count.plus.Reads as plus-reads
 use Rattle.split.proofs.run.and_run.Reads as and-run-reads
-use Rattle.split.proofs.count.+conjunct_count+operand_count_below+operands_count.{
-  statement,
-}
-use Rattle.split.proofs.count.+conjunct_count+operand_count_below+operands_count.Tie.{
-  close,
-}
+use Rattle.split.proofs.count.+conjunct_count+operand_count_below+operands_count.{statement}
+use Rattle.split.proofs.count.+conjunct_count+operand_count_below+operands_count.Tie.{close}
 
 abbrev μ-conjunct-count : Measures 1 conjunct-count-kinds.ps ℕ
 μ-conjunct-count κs a = 3 * a .1 .1 .0 + 2
