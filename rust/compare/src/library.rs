@@ -1,7 +1,6 @@
-//! The proved library's functions, called through its C names.
+//! The pieces of the proved library, called through their C names.
 
 mod c {
-    pub type Entry = unsafe extern "C" fn(*const u8, usize, u16, *mut u8, usize) -> u64;
     pub type Merge =
         unsafe extern "C" fn(*const u8, usize, *const u8, usize, *mut u8, usize) -> u64;
 
@@ -48,26 +47,6 @@ mod c {
         pub fn pieces_derived(
             value: *const u8,
             length: usize,
-            out: *mut u8,
-            out_length: usize,
-        ) -> u64;
-        pub fn estimates_join(
-            sheet: *const u8,
-            length: usize,
-            out: *mut u8,
-            out_length: usize,
-        ) -> u64;
-        pub fn estimates_predicate(
-            sheet: *const u8,
-            length: usize,
-            expression: u16,
-            out: *mut u8,
-            out_length: usize,
-        ) -> u64;
-        pub fn estimates_split(
-            sheet: *const u8,
-            length: usize,
-            expression: u16,
             out: *mut u8,
             out_length: usize,
         ) -> u64;
@@ -145,33 +124,6 @@ pub fn min_by_value(left: &[u8], right: &[u8], out: &mut [u8]) -> u64 {
 /// The bytes written, 0 where `out` has no room.
 pub fn derived(value: &[u8], out: &mut [u8]) -> u64 {
     unsafe { c::pieces_derived(value.as_ptr(), value.len(), out.as_mut_ptr(), out.len()) }
-}
-
-/// The bytes written, or 2^32 plus the refusal's number.
-pub fn join(sheet: &[u8], out: &mut [u8]) -> u64 {
-    unsafe { c::estimates_join(sheet.as_ptr(), sheet.len(), out.as_mut_ptr(), out.len()) }
-}
-
-fn entered(entry: c::Entry, sheet: &[u8], expression: u16, out: &mut [u8]) -> u64 {
-    unsafe {
-        entry(
-            sheet.as_ptr(),
-            sheet.len(),
-            expression,
-            out.as_mut_ptr(),
-            out.len(),
-        )
-    }
-}
-
-/// The bytes written, or 2^32 plus the refusal's number.
-pub fn predicate(sheet: &[u8], expression: u16, out: &mut [u8]) -> u64 {
-    entered(c::estimates_predicate, sheet, expression, out)
-}
-
-/// The bytes written, or 2^32 plus the refusal's number.
-pub fn split(sheet: &[u8], expression: u16, out: &mut [u8]) -> u64 {
-    entered(c::estimates_split, sheet, expression, out)
 }
 
 pub fn root(x: f64) -> f64 {

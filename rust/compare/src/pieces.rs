@@ -7,11 +7,15 @@ use oracle::analysis::{estimate_of, estimate_values, scalar_of};
 use oracle::pieces;
 use oracle::statistics::EncodedScalarValue;
 use sheet::values::{Column, Estimate, Expression, Scalar, Sheet};
-use sheet::writer::{column_bytes, estimate_bytes, scalar_bytes};
+use sheet::writer::{ESTIMATE_SIZE, column_bytes, estimate_bytes, scalar_bytes};
 use std::cmp::Ordering;
 
 /// At most so many scalars of a sheet, or columns of a side, are compared with each other.
 const SOME: usize = 16;
+
+/// What a piece that writes an estimate answers: its length, or 0 where there is no room.
+const WRITTEN: u64 = ESTIMATE_SIZE as u64;
+const NO_ROOM: u64 = 0;
 
 /// A sheet's scalars, in its order.
 pub fn scalars(sheet: &Sheet) -> Vec<Scalar> {
@@ -154,17 +158,19 @@ fn compare_estimates(sheet: &Sheet, report: &mut Report) {
         let (left, right) = (estimate_of(&pair[0]), estimate_of(&pair[1]));
         let (left_bytes, right_bytes) = (estimate_bytes(&pair[0]), estimate_bytes(&pair[1]));
         let expected = estimate_bytes(&estimate_values(&pieces::larger(&left, &right)));
-        let agrees = agree(&expected, 0, |out| {
+        let agrees = agree(&expected, WRITTEN, NO_ROOM, |out| {
             library::max_by_value(&left_bytes, &right_bytes, out)
         });
         report.compared("max_by_value", agrees);
         let expected = estimate_bytes(&estimate_values(&pieces::smaller(&left, &right)));
-        let agrees = agree(&expected, 0, |out| {
+        let agrees = agree(&expected, WRITTEN, NO_ROOM, |out| {
             library::min_by_value(&left_bytes, &right_bytes, out)
         });
         report.compared("min_by_value", agrees);
         let expected = estimate_bytes(&estimate_values(&pieces::derived(&left)));
-        let agrees = agree(&expected, 0, |out| library::derived(&left_bytes, out));
+        let agrees = agree(&expected, WRITTEN, NO_ROOM, |out| {
+            library::derived(&left_bytes, out)
+        });
         report.compared("Estimate::derived", agrees);
     }
 }

@@ -1,5 +1,7 @@
-//! A join sheet: its values, its bytes read and written, and sheets drawn by seed.
+//! A join sheet: its values, its bytes read and written, and sheets drawn by seed. The answers on
+//! it: their values, and their bytes read and written.
 
+pub mod answers;
 pub mod damage;
 pub mod generator;
 pub mod limits;

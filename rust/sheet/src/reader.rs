@@ -130,7 +130,7 @@ impl<T: Copy> Found<T> {
 }
 
 /// Takes the first `N` bytes away from `rest`.
-fn take<const N: usize>(rest: &mut &[u8]) -> Option<[u8; N]> {
+pub(crate) fn take<const N: usize>(rest: &mut &[u8]) -> Option<[u8; N]> {
     let (first, left) = rest.split_first_chunk()?;
     *rest = left;
     Some(*first)
@@ -285,7 +285,7 @@ fn decode_tagged(tag: u8, rest: &mut &[u8]) -> Option<Scalar> {
     Some(scalar)
 }
 
-fn decode_boolean([byte]: [u8; 1]) -> Option<bool> {
+pub(crate) fn decode_boolean([byte]: [u8; 1]) -> Option<bool> {
     match byte {
         0 => Some(false),
         1 => Some(true),

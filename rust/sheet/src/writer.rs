@@ -1,6 +1,6 @@
 //! Writes a sheet as bytes, and lists the fields of those bytes.
 //!
-//! One walk serves both: it hands each field to a [`Sink`], which keeps the bytes or notes the
+//! One walk serves both: it hands each field to a `Sink`, which keeps the bytes or notes the
 //! field. The walk keeps no rule, so it writes sheets that a reader turns back, too.
 
 use crate::limits::NONE;
@@ -22,7 +22,7 @@ pub fn write(sheet: &Sheet) -> Vec<u8> {
     bytes.0
 }
 
-/// The fields of the bytes that [`write`] gives, first to last and without gaps.
+/// The fields of the bytes that [`write()`] gives, first to last and without gaps.
 pub fn fields(sheet: &Sheet) -> Vec<Field> {
     let mut notes = Notes {
         at: 0,
