@@ -8,6 +8,7 @@ pub mod limits;
 pub mod random;
 pub mod reader;
 pub mod samples;
+pub mod text;
 pub mod values;
 pub mod worked;
 pub mod writer;
