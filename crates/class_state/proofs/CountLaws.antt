@@ -71,6 +71,9 @@ module _ (roots : List ℕ) where
           let t = tabulate-at (memberCount roots) 128 k 0 (omega arith) in
           omega arith
 
+  pub counts-length : (counts : List ℕ) → counts ≡ tabulate (memberCount roots) columnLimit → length counts ≡ 128
+  counts-length counts e = ap length e ∙ tabulate-length (memberCount roots) 128
+
   pub count-at : (counts : List ℕ) (root : ℕ) → counts ≡ tabulate (memberCount roots) columnLimit → root < 128 → getD counts root 0 ≡ memberCount roots root
   count-at counts root e h = ap (λ (l : List ℕ). getD l root 0) e ∙ tabulate-at (memberCount roots) 128 root 0 h
 

@@ -3,6 +3,7 @@ use Prim.Native.Nat.{ℕ, _+_, _-_, _≤_, _<_}
 use mathlib.Core.Path.{_≡_, refl, sym, ap, _∙_}
 use mathlib.Core.Bool.{Bool, true, false, cond}
 use mathlib.Core.List.{List, [], _∷_, _++_, map, append-assoc}
+use native.Mathlib.Omega.{arith}
 use borrow.Author.Tests.{le-leb, lt-leb}
 use lib.Dec.{leb}
 use lib.ListN.{length, getD, length-append}
@@ -29,6 +30,10 @@ use Rattle.class_state.proofs.CountLaws.{count-at}
 pub head-length : (count : ℕ) (d : Estimate) → length (u16Bytes count ++ estimateBytes d) ≡ 28
 unfolding fieldBytes
 head-length count d = length-append (u16Bytes count) (estimateBytes d) ∙ ap (λ (n : ℕ). 2 + n) (estimate-length d)
+
+pub one-below : (b : Bool) (one : ℕ) → one ≡ bit b → one ≤ 1
+one-below true one e = omega arith
+one-below false one e = omega arith
 
 -- the roots that are returned, of those from i on
 abbrev returnedFrom : List ℕ → ℕ → List ℕ

@@ -1,7 +1,7 @@
 // EquivalenceClassState of the source's analysis.rs.
 mod apart;
 pub mod distincts;
-mod members;
+pub mod members;
 pub mod profiles;
 pub mod returned;
 pub mod slots;

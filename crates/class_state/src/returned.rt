@@ -1,17 +1,17 @@
 // What is returned: the classes of two columns or more, ascending by the column at their root.
 ghost use mathlib.Core.Path.{_≡_};
 ghost use mathlib.Core.Bool.{cond};
-ghost use mathlib.Core.List.{[]};
-ghost use Prim.Native.Nat.{_≤_};
+ghost use mathlib.Core.List.{List, []};
+ghost use Prim.Native.Nat.{ℕ, _*_, _≤_};
 ghost use lib.ListN.{length};
 ghost use Rattle.le.specs.Fields.{onto};
+ghost use Rattle.records.specs.Lists.{tabulate};
 ghost use Rattle.sheet.specs.Sheet.{sheetOf};
-ghost use Rattle.class_state.specs.State.{isReturned, returnedRoots, classAtRoot, intoClasses};
+ghost use Rattle.class_state.specs.State.{columnLimit, isReturned, returnedRoots, classAtRoot, intoClasses};
 ghost use Rattle.class_state.specs.Places.{stateOf};
 ghost use Rattle.class_state.specs.Bytes.{classBytes, classesBytes};
 ghost use Rattle.class_state.specs.Sizes.{memberCount, returnedSize, sizeAtRoot, classesSize};
 use crate::distincts::distinct_at;
-use crate::members::member_counts;
 use crate::members::put_members;
 use crate::slots::place_of;
 use estimate::bytes::put_estimate;
@@ -19,10 +19,11 @@ use float::integers::one_if;
 use le::writes::put_u16;
 use sheet::Sections;
 
-pub fn class_count(roots: &[u8]) -> usize
-    ensures { λ r. ⌜ r ≡ length (returnedRoots (now (roots .entry))) ⌝ }
+// How many classes are returned, by how many columns each root has.
+pub fn class_count(counts: &[u8]) -> usize
+    requires { ⌜ length (now counts) ≡ columnLimit ⌝ }
+    ensures { λ r. ⌜ ((roots : List ℕ) → now (counts .entry) ≡ tabulate (memberCount roots) columnLimit → r ≡ length (returnedRoots roots)) ⌝ }
 {
-    let counts = member_counts(roots);
     let mut n: usize = 0;
     let mut root: usize = 0;
     while root < 128 {
@@ -33,26 +34,28 @@ pub fn class_count(roots: &[u8]) -> usize
 }
 
 // The bytes of a class of so many columns, none if it is not returned.
-fn returned_size(count: u8) -> usize
-    ensures { λ r. ⌜ r ≡ returnedSize count ⌝ }
+fn returned_size(count: u8) -> u32
+    ensures { λ r. ⌜ (r ≡ returnedSize count) × (r ≤ 538) ⌝ }
 {
     if count >= 2 {
-        return 28 + 2 * count as usize;
+        return 28 + 2 * count as u32;
     }
     0
 }
 
-pub fn classes_size(roots: &[u8]) -> usize
-    ensures { λ r. ⌜ r ≡ classesSize (now (roots .entry)) ⌝ }
+// How many bytes they take.
+pub fn classes_size(counts: &[u8]) -> usize
+    requires { ⌜ length (now counts) ≡ columnLimit ⌝ }
+    ensures { λ r. ⌜ ((roots : List ℕ) → now (counts .entry) ≡ tabulate (memberCount roots) columnLimit → r ≡ classesSize roots) ⌝ }
+    ensures { λ r. ⌜ r ≤ 128 * 538 ⌝ }
 {
-    let counts = member_counts(roots);
-    let mut size: usize = 0;
+    let mut size: u32 = 0;
     let mut root: usize = 0;
     while root < 128 {
         size += returned_size(counts[root]);
         root += 1;
     }
-    size
+    size as usize
 }
 
 // The class at a root that has so many members.
@@ -95,12 +98,18 @@ fn put_returned(
     0
 }
 
-pub fn put_classes(s: &[u8], q: Sections, roots: &[u8], places: &[usize], out: &mut [u8]) -> usize
-    requires { ⌜ classesSize (now roots) ≤ length (now out) ⌝ }
+pub fn put_classes(
+    s: &[u8],
+    q: Sections,
+    roots: &[u8],
+    counts: &[u8],
+    places: &[usize],
+    out: &mut [u8],
+) -> usize
+    requires { ⌜ (now counts ≡ tabulate (memberCount (now roots)) columnLimit) × (classesSize (now roots) ≤ length (now out)) ⌝ }
     ensures { λ r. ⌜ r ≡ classesSize (now (roots .entry)) ⌝ }
     ensures { λ _. ⌜ now (out .exit) ≡ onto (classesBytes (intoClasses (sheetOf (now (s .entry)) q) (stateOf (now (s .entry)) q (now (roots .entry)) (now (places .entry))))) (now (out .entry)) ⌝ }
 {
-    let counts = member_counts(roots);
     let mut at: usize = 0;
     let mut root: u8 = 0;
     while root < 128 {

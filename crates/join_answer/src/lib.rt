@@ -9,6 +9,7 @@ ghost use Rattle.answers.specs.Answers.{bytes, answered, leaves};
 ghost use Rattle.join_answer.specs.Join.{joinBytes, joinOf, joinResult};
 ghost use Rattle.join_answer.specs.Joined.{joinedBytes};
 use answers::Answer;
+use class_state::members::member_counts;
 use join::Joined;
 use join::join_selectivity_from_conjuncts;
 use join_parts::conjuncts::put_conjunct_numbers;
@@ -28,7 +29,8 @@ fn write_joined(s: &[u8], q: Sections, joined: Joined, coverages: &[u8], out: &m
     let places = joined.places;
     let marks = joined.marks;
     let n = joined.coverages;
-    let size = join_size(&roots, n, &marks);
+    let counts = member_counts(&roots);
+    let size = join_size(&counts, n, &marks);
     if size <= out.len() {
         put_figures(
             joined.selectivity,
@@ -36,7 +38,17 @@ fn write_joined(s: &[u8], q: Sections, joined: Joined, coverages: &[u8], out: &m
             joined.residual_selectivity,
             out,
         );
-        put_behind_figures(s, q, &roots, &places, coverages, n, &marks, &mut out[62..]);
+        put_behind_figures(
+            s,
+            q,
+            &roots,
+            &counts,
+            &places,
+            coverages,
+            n,
+            &marks,
+            &mut out[62..],
+        );
         return Answer::Written(size);
     }
     Answer::Refused(12)

@@ -1,12 +1,14 @@
 // The parts of a join's answer, each to the front of what is lent.
 ghost use mathlib.Core.Path.{_≡_};
-ghost use Prim.Native.Nat.{_+_, _*_, _≤_};
+ghost use mathlib.Core.List.{List};
+ghost use Prim.Native.Nat.{ℕ, _+_, _*_, _≤_};
 ghost use lib.ListN.{length, take};
 ghost use Rattle.le.specs.Fields.{onto};
+ghost use Rattle.records.specs.Lists.{tabulate};
 ghost use Rattle.sheet.specs.Sheet.{sheetOf};
-ghost use Rattle.class_state.specs.State.{intoClasses};
+ghost use Rattle.class_state.specs.State.{columnLimit, intoClasses};
 ghost use Rattle.class_state.specs.Places.{stateOf};
-ghost use Rattle.class_state.specs.Sizes.{classesSize};
+ghost use Rattle.class_state.specs.Sizes.{memberCount, classesSize};
 ghost use Rattle.equality_pairs.specs.NonNull.{markedColumns};
 ghost use Rattle.edge_fold.specs.Coverages.{coverageSize};
 ghost use Rattle.join_parts.specs.Parts.{figuresPart, classesPart, coveragesPart, columnsPart, behindClasses, behindFigures};
@@ -51,13 +53,20 @@ pub fn put_figures(
 }
 
 // The classes, and how many bytes they take with their count.
-fn put_classes_part(s: &[u8], q: Sections, roots: &[u8], places: &[usize], out: &mut [u8]) -> usize
-    requires { ⌜ 2 + classesSize (now roots) ≤ length (now out) ⌝ }
+fn put_classes_part(
+    s: &[u8],
+    q: Sections,
+    roots: &[u8],
+    counts: &[u8],
+    places: &[usize],
+    out: &mut [u8],
+) -> usize
+    requires { ⌜ (now counts ≡ tabulate (memberCount (now roots)) columnLimit) × (2 + classesSize (now roots) ≤ length (now out)) ⌝ }
     ensures { λ r. ⌜ r ≡ 2 + classesSize (now (roots .entry)) ⌝ }
     ensures { λ _. ⌜ now (out .exit) ≡ onto (classesPart (intoClasses (sheetOf (now (s .entry)) q) (stateOf (now (s .entry)) q (now (roots .entry)) (now (places .entry))))) (now (out .entry)) ⌝ }
 {
-    put_u16(out, class_count(roots) as u16);
-    2 + put_classes(s, q, roots, places, &mut out[2..])
+    put_u16(out, class_count(counts) as u16);
+    2 + put_classes(s, q, roots, counts, places, &mut out[2..])
 }
 
 // The first n coverages of those in `bytes`.
@@ -93,23 +102,24 @@ pub fn put_behind_figures(
     s: &[u8],
     q: Sections,
     roots: &[u8],
+    counts: &[u8],
     places: &[usize],
     bytes: &[u8],
     n: usize,
     marks: &[bool],
     out: &mut [u8],
 )
-    requires { ⌜ (n ≤ 64) × (coverageSize * n ≤ length (now bytes)) × (6 + classesSize (now roots) + coverageSize * n + 2 * length (markedColumns (now marks)) ≤ length (now out)) ⌝ }
+    requires { ⌜ (now counts ≡ tabulate (memberCount (now roots)) columnLimit) × ((n ≤ 64) × (coverageSize * n ≤ length (now bytes)) × (6 + classesSize (now roots) + coverageSize * n + 2 * length (markedColumns (now marks)) ≤ length (now out))) ⌝ }
     ensures { λ _. ⌜ now (out .exit) ≡ onto (behindFigures (intoClasses (sheetOf (now (s .entry)) q) (stateOf (now (s .entry)) q (now (roots .entry)) (now (places .entry)))) n (now (bytes .entry)) (markedColumns (now (marks .entry)))) (now (out .entry)) ⌝ }
 {
-    let at = put_classes_part(s, q, roots, places, out);
+    let at = put_classes_part(s, q, roots, counts, places, out);
     put_behind_classes(bytes, n, marks, &mut out[at..]);
 }
 
 // How many bytes the answer has.
-pub fn join_size(roots: &[u8], coverages: usize, marks: &[bool]) -> usize
-    requires { ⌜ coverages ≤ 64 ⌝ }
-    ensures { λ r. ⌜ r ≡ 68 + classesSize (now (roots .entry)) + coverageSize * coverages + 2 * length (markedColumns (now (marks .entry))) ⌝ }
+pub fn join_size(counts: &[u8], coverages: usize, marks: &[bool]) -> usize
+    requires { ⌜ (length (now counts) ≡ columnLimit) × (coverages ≤ 64) ⌝ }
+    ensures { λ r. ⌜ ((roots : List ℕ) → now (counts .entry) ≡ tabulate (memberCount roots) columnLimit → r ≡ 68 + classesSize roots + coverageSize * coverages + 2 * length (markedColumns (now (marks .entry)))) ⌝ }
 {
-    68 + classes_size(roots) + 43 * coverages + 2 * marked_count(marks)
+    68 + classes_size(counts) + 43 * coverages + 2 * marked_count(marks)
 }

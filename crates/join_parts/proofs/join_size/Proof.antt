@@ -1,6 +1,7 @@
 -- The sizes of the parts. Assumes nothing.
+use Prim.Native.Nat.{ℕ}
+use mathlib.Core.List.{List}
 use native.Mathlib.Omega.{arith}
-use Rattle.class_state.proofs.SizeLaws.{classes-size-below}
 use Rattle.join_parts.proofs.PartLaws.{marked-below}
 use borrow.Author.Needs.{needs}
 use Rattle.join_parts.proofs.join_size.Statement.{statement}
@@ -10,13 +11,13 @@ classes-size-requires : tie.Need-classes-size-requires
 classes-size-requires c κs = search needs
 
 add-result : tie.Need-add-result
-add-result c = let b = classes-size-below (c .before .before .before .args .roots .now) in omega arith
+add-result c = let b = c .classes-size .ensures .1 in omega arith
 
 mul-result : tie.Need-mul-result
 mul-result c = search needs
 
 add-result-2 : tie.Need-add-result-2
-add-result-2 c = let b = classes-size-below (c .before .before .before .args .roots .now) in omega arith
+add-result-2 c = let b = c .classes-size .ensures .1 in omega arith
 
 marked-count-requires : tie.Need-marked-count-requires
 marked-count-requires c κs = search needs
@@ -26,12 +27,12 @@ mul-result-2 c = let b = marked-below (c .before .before .before .before .args .
 
 add-result-3 : tie.Need-add-result-3
 add-result-3 c = let a = c .before .before .before .before .args in
-    let b = classes-size-below (a .roots .now) in
+    let b = c .before .classes-size .ensures .1 in
     let m = marked-below (a .marks .now) in
     omega arith
 
 returns : tie.Need-returns
-returns c = search needs
+returns c = λ (roots : List ℕ) e. let k = c .before .classes-size .ensures .0 roots e in let m = c .marked-count .ensures in omega arith
 
 pub join-size-spec : {M : Type 1} → statement M
 join-size-spec =

@@ -32,7 +32,9 @@ returns : tie.Need-returns
 unfolding behindFigures stateOf
 returns c = let p = c .before .before in
     let u = p .before .before .before .before in
-    let a = u .before .before .before .before .before .before .before .before .args in
+    let start = u .before .before .before .before .before .before .before .before .before in
+    let a = start .args in
+    let room = start .pre .1 .2 in
     let at = u .put-classes-part .ensures .0 in
     onto-part _ _ (a .out .now) _ _ _ _ (classes-part-length (sheetOf (a .s .now) (a .q)) (stateOf (a .s .now) (a .q) (a .roots .now) (a .places .now)) ∙ sym at) refl (omega arith) (u .put-classes-part .ensures .1) (p .put-behind-classes .ensures)
 

@@ -1,30 +1,30 @@
 -- Each turn counts the class at one root, if it is returned. Assumes nothing.
-use Prim.Native.Nat.{_≤_, _-_, _+_}
+use Prim.Native.Nat.{ℕ, _≤_, _-_, _+_}
 use mathlib.Core.Path.{_≡_}
+use mathlib.Core.List.{List}
 use native.Mathlib.Omega.{arith}
-use lib.ListN.{length}
+use lib.Dec.{leb}
+use lib.ListN.{length, getD}
 use Rattle.records.specs.Lists.{tabulate}
 use Rattle.class_state.specs.State.{columnLimit, returnedRoots}
 use Rattle.class_state.specs.Sizes.{memberCount}
-use Rattle.class_state.proofs.SizeLaws.{class-count-below}
-use Rattle.class_state.proofs.ReturnedLaws.{countLeft, count-left-first, count-left-next, count-left-none}
+use Rattle.class_state.proofs.ReturnedLaws.{countLeft, count-left-first, count-left-next, count-left-none, one-below}
 use Rattle.class_state.proofs.returned.class_count.Statement.{statement}
 use Rattle.class_state.proofs.returned.class_count.Tie as tie
 
 abbrev Inv-loop : tie.InvT-loop
-Inv-loop roots counts n₀ root₀ n root = (root ≤ 128) × (counts ≡ tabulate (memberCount roots) columnLimit) × (n + countLeft roots root ≡ length (returnedRoots roots))
+Inv-loop counts n₀ root₀ n root = (root ≤ 128) × (n ≤ root) × ((roots : List ℕ) → counts ≡ tabulate (memberCount roots) columnLimit → n + countLeft roots root ≡ length (returnedRoots roots))
 
 abbrev μ-loop : tie.MeasureT-loop
-μ-loop roots counts n₀ root₀ n root = 128 - root
-
-member-counts-requires : tie.Need-member-counts-requires Inv-loop μ-loop
-member-counts-requires c κs = tt
+μ-loop counts n₀ root₀ n root = 128 - root
 
 loop-holds : tie.Need-loop-holds Inv-loop μ-loop
-loop-holds c = let f = count-left-first (c .before .before .args .roots .now) in (omega arith, c .member-counts .ensures, omega arith)
+loop-holds c = (omega arith, omega arith, λ (roots : List ℕ) e. let f = count-left-first roots in omega arith)
 
-array-read-one-if : tie.Need-array-read-one-if Inv-loop μ-loop
-array-read-one-if c = c .loop-test .taken
+shared-slice-read-one-if : tie.Need-shared-slice-read-one-if Inv-loop μ-loop
+shared-slice-read-one-if c = let h = c .before .loop-test .taken in
+    let n = c .before .before .before .before .pre in
+    omega arith
 
 one-if-requires : tie.Need-one-if-requires Inv-loop μ-loop
 one-if-requires c κs = tt
@@ -33,30 +33,28 @@ cast-n : tie.Need-cast-n Inv-loop μ-loop
 cast-n c = omega arith
 
 add-n : tie.Need-add-n Inv-loop μ-loop
-add-n c = let l = c .before .before .loop in
-    let r = c .before .before .before .before .before .args .roots .now in
-    let b = class-count-below r in
-    let i = l .inv .2 in
+add-n c = let h = c .before .before .loop-test .taken in
+    let l = c .before .before .before .loop in
+    let i = l .inv .1 in
+    let b = one-below (leb 2 (getD (c .before .before .before .before .before .args .counts .now) (l .root) 0)) _ (c .one-if .ensures) in
     omega arith
 
 add-root : tie.Need-add-root Inv-loop μ-loop
-add-root c = let h = c .before .loop-test .taken in omega arith
+add-root c = let h = c .before .before .loop-test .taken in omega arith
 
 loop-less : tie.Need-loop-less Inv-loop μ-loop
-loop-less c = let h = c .before .loop-test .taken in omega arith
+loop-less c = let h = c .before .before .loop-test .taken in omega arith
 
 loop-again : tie.Need-loop-again Inv-loop μ-loop
-loop-again c = let l = c .before .before .loop in
-    let h = c .before .loop-test .taken in
-    let n = count-left-next (c .before .before .before .before .before .args .roots .now) _ (l .root) _ (l .inv .1) h (c .one-if .ensures) in
-    let i = l .inv .2 in
-    (omega arith, l .inv .1, omega arith)
+loop-again c = let h = c .before .before .loop-test .taken in
+    let l = c .before .before .before .loop in
+    let i = l .inv .1 in
+    let b = one-below (leb 2 (getD (c .before .before .before .before .before .args .counts .now) (l .root) 0)) _ (c .one-if .ensures) in
+    (omega arith, omega arith, λ (roots : List ℕ) e. let n = count-left-next roots _ (l .root) _ e h (c .one-if .ensures) in let k = l .inv .2 roots e in omega arith)
 
 returns : tie.Need-returns Inv-loop μ-loop
 returns c = let l = c .before .loop in
-    let n = count-left-none (c .before .before .before .before .args .roots .now) (l .root) (c .loop-test .left) in
-    let i = l .inv .2 in
-    omega arith
+    λ (roots : List ℕ) e. let n = count-left-none roots (l .root) (c .loop-test .left) in let k = l .inv .2 roots e in omega arith
 
 pub class-count-spec : {M : Type 1} → statement M
 class-count-spec =
@@ -64,9 +62,8 @@ class-count-spec =
     (tie.spec
     Inv-loop
     μ-loop
-    member-counts-requires
     loop-holds
-    array-read-one-if
+    shared-slice-read-one-if
     one-if-requires
     cast-n
     add-n

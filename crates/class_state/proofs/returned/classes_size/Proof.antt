@@ -1,59 +1,58 @@
 -- Each turn measures the class at one root, if it is returned. Assumes nothing.
-use Prim.Native.Nat.{_≤_, _-_, _+_}
+use Prim.Native.Nat.{ℕ, _≤_, _-_, _+_, _*_}
 use mathlib.Core.Path.{_≡_}
+use mathlib.Core.List.{List}
 use native.Mathlib.Omega.{arith}
 use Rattle.records.specs.Lists.{tabulate}
 use Rattle.class_state.specs.State.{columnLimit}
 use Rattle.class_state.specs.Sizes.{memberCount, classesSize}
-use Rattle.class_state.proofs.SizeLaws.{classes-size-below}
 use Rattle.class_state.proofs.ReturnedLaws.{sizeLeft, size-left-first, size-left-next, size-left-none}
 use Rattle.class_state.proofs.returned.classes_size.Statement.{statement}
 use Rattle.class_state.proofs.returned.classes_size.Tie as tie
 
 abbrev Inv-loop : tie.InvT-loop
-Inv-loop roots counts size₀ root₀ size root = (root ≤ 128) × (counts ≡ tabulate (memberCount roots) columnLimit) × (size + sizeLeft roots root ≡ classesSize roots)
+Inv-loop counts size₀ root₀ size root = (root ≤ 128) × (size ≤ 538 * root) × ((roots : List ℕ) → counts ≡ tabulate (memberCount roots) columnLimit → size + sizeLeft roots root ≡ classesSize roots)
 
 abbrev μ-loop : tie.MeasureT-loop
-μ-loop roots counts size₀ root₀ size root = 128 - root
-
-member-counts-requires : tie.Need-member-counts-requires Inv-loop μ-loop
-member-counts-requires c κs = tt
+μ-loop counts size₀ root₀ size root = 128 - root
 
 loop-holds : tie.Need-loop-holds Inv-loop μ-loop
-loop-holds c = let f = size-left-first (c .before .before .args .roots .now) in (omega arith, c .member-counts .ensures, omega arith)
+loop-holds c = (omega arith, omega arith, λ (roots : List ℕ) e. let f = size-left-first roots in omega arith)
 
-array-read-returned-size : tie.Need-array-read-returned-size Inv-loop μ-loop
-array-read-returned-size c = c .loop-test .taken
+shared-slice-read-returned-size : tie.Need-shared-slice-read-returned-size Inv-loop μ-loop
+shared-slice-read-returned-size c = let h = c .before .loop-test .taken in
+    let n = c .before .before .before .before .pre in
+    omega arith
 
 returned-size-requires : tie.Need-returned-size-requires Inv-loop μ-loop
 returned-size-requires c κs = tt
 
 add-size : tie.Need-add-size Inv-loop μ-loop
-add-size c = let l = c .before .before .loop in
-    let r = c .before .before .before .before .before .args .roots .now in
-    let b = classes-size-below r in
-    let n = size-left-next r _ (l .root) _ (l .inv .1) (c .before .loop-test .taken) (c .returned-size .ensures) in
-    let i = l .inv .2 in
+add-size c = let h = c .before .before .loop-test .taken in
+    let i = c .before .before .before .loop .inv .1 in
+    let b = c .returned-size .ensures .1 in
     omega arith
 
 add-root : tie.Need-add-root Inv-loop μ-loop
-add-root c = let h = c .before .loop-test .taken in omega arith
+add-root c = let h = c .before .before .loop-test .taken in omega arith
 
 loop-less : tie.Need-loop-less Inv-loop μ-loop
-loop-less c = let h = c .before .loop-test .taken in omega arith
+loop-less c = let h = c .before .before .loop-test .taken in omega arith
 
 loop-again : tie.Need-loop-again Inv-loop μ-loop
-loop-again c = let l = c .before .before .loop in
-    let h = c .before .loop-test .taken in
-    let n = size-left-next (c .before .before .before .before .before .args .roots .now) _ (l .root) _ (l .inv .1) h (c .returned-size .ensures) in
-    let i = l .inv .2 in
-    (omega arith, l .inv .1, omega arith)
+loop-again c = let h = c .before .before .loop-test .taken in
+    let l = c .before .before .before .loop in
+    let i = l .inv .1 in
+    let b = c .returned-size .ensures .1 in
+    (omega arith, omega arith, λ (roots : List ℕ) e. let n = size-left-next roots _ (l .root) _ e h (c .returned-size .ensures .0) in let k = l .inv .2 roots e in omega arith)
+
+cast-result : tie.Need-cast-result Inv-loop μ-loop
+cast-result c = omega arith
 
 returns : tie.Need-returns Inv-loop μ-loop
 returns c = let l = c .before .loop in
-    let n = size-left-none (c .before .before .before .before .args .roots .now) (l .root) (c .loop-test .left) in
-    let i = l .inv .2 in
-    omega arith
+    let i = l .inv in
+    (λ (roots : List ℕ) e. let n = size-left-none roots (l .root) (c .loop-test .left) in let k = l .inv .2 roots e in omega arith, let a = i .0 in let b = i .1 in omega arith)
 
 pub classes-size-spec : {M : Type 1} → statement M
 classes-size-spec =
@@ -61,12 +60,12 @@ classes-size-spec =
     (tie.spec
     Inv-loop
     μ-loop
-    member-counts-requires
     loop-holds
-    array-read-returned-size
+    shared-slice-read-returned-size
     returned-size-requires
     add-size
     add-root
     loop-less
     loop-again
+    cast-result
     returns)

@@ -6,32 +6,28 @@ use native.Mathlib.Omega.{arith}
 use borrow.Author.Needs.{needs}
 use lib.ListN.{length}
 use Rattle.le.specs.Fields.{onto}
-use Rattle.records.specs.Lists.{tabulate}
-use Rattle.class_state.specs.State.{columnLimit}
-use Rattle.class_state.specs.Sizes.{memberCount}
-use Rattle.class_state.proofs.CountLaws.{count-at}
+use Rattle.class_state.proofs.CountLaws.{count-at, counts-length}
 use Rattle.number_bytes.proofs.FilledLaws.{Filled, filled-first, filled-within, filled-room, filled-part, filled-next, filled-length, filled-all}
 use Rattle.class_state.proofs.ReturnedLaws.{bytesLeft, returnedBytes, returned-length, bytes-left-first, bytes-left-size, bytes-left-room, bytes-left-next, bytes-left-none}
 use Rattle.class_state.proofs.returned.put_classes.Statement.{statement}
 use Rattle.class_state.proofs.returned.put_classes.Tie as tie
 
 abbrev Inv-loop : tie.InvT-loop
-Inv-loop s q roots places out₀ counts at₀ root₀ out at root = (root ≤ 128) × (counts ≡ tabulate (memberCount roots) columnLimit) × (length out ≡ length out₀) × (at ≤ length out) × Filled (bytesLeft roots s q places) out₀ out at root
+Inv-loop s q roots counts places out₀ at₀ root₀ out at root = (root ≤ 128) × (length out ≡ length out₀) × (at ≤ length out) × Filled (bytesLeft roots s q places) out₀ out at root
 
 abbrev μ-loop : tie.MeasureT-loop
-μ-loop s q roots places out₀ counts at₀ root₀ out at root = 128 - root
-
-member-counts-requires : tie.Need-member-counts-requires Inv-loop μ-loop
-member-counts-requires c κs = tt
+μ-loop s q roots counts places out₀ at₀ root₀ out at root = 128 - root
 
 loop-holds : tie.Need-loop-holds Inv-loop μ-loop
-loop-holds c = (omega arith, c .member-counts .ensures, refl, omega arith, filled-first _ _)
+loop-holds c = (omega arith, refl, omega arith, filled-first _ _)
 
 cast-put-returned : tie.Need-cast-put-returned Inv-loop μ-loop
 cast-put-returned c = let h = c .loop-test .taken in omega arith
 
-array-read-put-returned : tie.Need-array-read-put-returned Inv-loop μ-loop
-array-read-put-returned c = c .loop-test .taken
+shared-slice-read-put-returned : tie.Need-shared-slice-read-put-returned Inv-loop μ-loop
+shared-slice-read-put-returned c = let h = c .before .loop-test .taken in
+    let n = counts-length _ _ (c .before .before .before .before .before .before .before .before .pre .0) in
+    omega arith
 
 sub-put-returned : tie.Need-sub-put-returned Inv-loop μ-loop
 sub-put-returned c = search needs
@@ -44,49 +40,49 @@ part-put-returned-end c = search needs
 
 put-returned-requires : tie.Need-put-returned-requires Inv-loop μ-loop
 put-returned-requires c κs =
-    let h = c .before .loop-test .taken in
-    let l = c .before .before .loop in
-    let start = c .before .before .before .before .before .before .before .before in
+    let h = c .before .before .loop-test .taken in
+    let l = c .before .before .before .loop in
+    let start = c .before .before .before .before .before .before .before .before .before in
     let a = start .args in
     let rest = bytesLeft (a .roots .now) (a .s .now) (a .q) (a .places .now) in
     let piece = returnedBytes (a .roots .now) (a .s .now) (a .q) (a .places .now) (l .root) in
-    let p = filled-part rest (a .out .now) (bytes-left-room (a .roots .now) (a .s .now) (a .q) (a .places .now) _ (start .pre)) (l .out) piece (l .at) (l .root) (l .inv .4) (bytes-left-next (a .roots .now) (a .s .now) (a .q) (a .places .now) (l .root) h) in
+    let p = filled-part rest (a .out .now) (bytes-left-room (a .roots .now) (a .s .now) (a .q) (a .places .now) _ (start .pre .1)) (l .out) piece (l .at) (l .root) (l .inv .3) (bytes-left-next (a .roots .now) (a .s .now) (a .q) (a .places .now) (l .root) h) in
     let n = returned-length (a .roots .now) (a .s .now) (a .q) (a .places .now) (l .root) in
-    (count-at (a .roots .now) _ (l .root) (l .inv .1) h, omega arith)
+    (count-at (a .roots .now) _ (l .root) (start .pre .0) h, omega arith)
 
 add-at : tie.Need-add-at Inv-loop μ-loop
 add-at c =
-    let h = c .before .before .before .before .loop-test .taken in
-    let l = c .before .before .before .before .before .loop in
-    let start = c .before .before .before .before .before .before .before .before .before .before .before in
+    let h = c .before .before .before .before .before .loop-test .taken in
+    let l = c .before .before .before .before .before .before .loop in
+    let start = c .before .before .before .before .before .before .before .before .before .before .before .before in
     let a = start .args in
     let rest = bytesLeft (a .roots .now) (a .s .now) (a .q) (a .places .now) in
     let piece = returnedBytes (a .roots .now) (a .s .now) (a .q) (a .places .now) (l .root) in
-    let p = filled-room rest (a .out .now) (bytes-left-room (a .roots .now) (a .s .now) (a .q) (a .places .now) _ (start .pre)) (l .out) piece (l .at) (l .root) (l .inv .4) (bytes-left-next (a .roots .now) (a .s .now) (a .q) (a .places .now) (l .root) h) in
+    let p = filled-room rest (a .out .now) (bytes-left-room (a .roots .now) (a .s .now) (a .q) (a .places .now) _ (start .pre .1)) (l .out) piece (l .at) (l .root) (l .inv .3) (bytes-left-next (a .roots .now) (a .s .now) (a .q) (a .places .now) (l .root) h) in
     let n = returned-length (a .roots .now) (a .s .now) (a .q) (a .places .now) (l .root) in
     let e = c .before .before .put-returned .ensures .0 in
     omega arith
 
 add-root : tie.Need-add-root Inv-loop μ-loop
-add-root c = let h = c .before .before .before .before .loop-test .taken in omega arith
+add-root c = let h = c .before .before .before .before .before .loop-test .taken in omega arith
 
 loop-less : tie.Need-loop-less Inv-loop μ-loop
-loop-less c = let h = c .before .before .before .before .loop-test .taken in omega arith
+loop-less c = let h = c .before .before .before .before .before .loop-test .taken in omega arith
 
 loop-again : tie.Need-loop-again Inv-loop μ-loop
 loop-again c =
-    let h = c .before .before .before .before .loop-test .taken in
-    let l = c .before .before .before .before .before .loop in
-    let start = c .before .before .before .before .before .before .before .before .before .before .before in
+    let h = c .before .before .before .before .before .loop-test .taken in
+    let l = c .before .before .before .before .before .before .loop in
+    let start = c .before .before .before .before .before .before .before .before .before .before .before .before in
     let a = start .args in
     let rest = bytesLeft (a .roots .now) (a .s .now) (a .q) (a .places .now) in
-    let room = bytes-left-room (a .roots .now) (a .s .now) (a .q) (a .places .now) _ (start .pre) in
+    let room = bytes-left-room (a .roots .now) (a .s .now) (a .q) (a .places .now) _ (start .pre .1) in
     let n = returned-length (a .roots .now) (a .s .now) (a .q) (a .places .now) (l .root) in
     let e = c .before .before .put-returned .ensures in
     let piece = returnedBytes (a .roots .now) (a .s .now) (a .q) (a .places .now) (l .root) in
-    let f = filled-next rest (a .out .now) room (l .out) piece (l .at) (l .root) (l .inv .4) (bytes-left-next (a .roots .now) (a .s .now) (a .q) (a .places .now) (l .root) h) _ _ _ (e .0 ∙ sym n) refl (e .1) in
+    let f = filled-next rest (a .out .now) room (l .out) piece (l .at) (l .root) (l .inv .3) (bytes-left-next (a .roots .now) (a .s .now) (a .q) (a .places .now) (l .root) h) _ _ _ (e .0 ∙ sym n) refl (e .1) in
     let w = filled-within rest (a .out .now) room _ _ _ f in
-    (omega arith, l .inv .1, w .0, w .1, f)
+    (omega arith, w .0, w .1, f)
 
 same-length : tie.Need-same-length Inv-loop μ-loop
 same-length c = search needs
@@ -97,7 +93,7 @@ returns c =
     let a = c .before .before .before .before .before .before .before .args in
     let rest = bytesLeft (a .roots .now) (a .s .now) (a .q) (a .places .now) in
     let n = bytes-left-none (a .roots .now) (a .s .now) (a .q) (a .places .now) (l .root) (c .loop-test .left) in
-    (filled-length rest (a .out .now) (l .out) (l .at) (l .root) n (l .inv .4) ∙ bytes-left-size (a .roots .now) (a .s .now) (a .q) (a .places .now), filled-all rest (a .out .now) (l .out) (l .at) (l .root) n (l .inv .4) ∙ ap (λ (bs : List ℕ). onto bs (a .out .now)) (bytes-left-first (a .roots .now) (a .s .now) (a .q) (a .places .now)))
+    (filled-length rest (a .out .now) (l .out) (l .at) (l .root) n (l .inv .3) ∙ bytes-left-size (a .roots .now) (a .s .now) (a .q) (a .places .now), filled-all rest (a .out .now) (l .out) (l .at) (l .root) n (l .inv .3) ∙ ap (λ (bs : List ℕ). onto bs (a .out .now)) (bytes-left-first (a .roots .now) (a .s .now) (a .q) (a .places .now)))
 
 pub put-classes-spec : {M : Type 1} → statement M
 put-classes-spec =
@@ -105,10 +101,9 @@ put-classes-spec =
     (tie.spec
     Inv-loop
     μ-loop
-    member-counts-requires
     loop-holds
     cast-put-returned
-    array-read-put-returned
+    shared-slice-read-put-returned
     sub-put-returned
     part-put-returned-start
     part-put-returned-end

@@ -12,10 +12,10 @@ add-result : tie.Need-add-result
 add-result c = search needs
 
 returns : tie.Need-returns
-returns c = rw (le-leb 2 (c .before .args .count) (c .if1 .taken)) refl
+returns c = (rw (le-leb 2 (c .before .args .count) (c .if1 .taken)) refl, search needs)
 
 returns-2 : tie.Need-returns-2
-returns-2 c = rw (lt-leb 2 (c .before .args .count) (c .if1 .left)) refl
+returns-2 c = (rw (lt-leb 2 (c .before .args .count) (c .if1 .left)) refl, search needs)
 
 pub returned-size-spec : {M : Type 1} → statement M
 returned-size-spec = tie.close (tie.spec mul-result add-result returns returns-2)
