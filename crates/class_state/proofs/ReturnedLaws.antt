@@ -4,8 +4,8 @@ use mathlib.Core.Path.{_≡_, refl, sym, ap, _∙_}
 use mathlib.Core.Bool.{Bool, true, false, cond}
 use mathlib.Core.List.{List, [], _∷_, _++_, map, append-assoc}
 use native.Mathlib.Omega.{arith}
-use borrow.Author.Tests.{le-leb, lt-leb}
-use lib.Dec.{leb}
+use borrow.Author.Tests.{le-leb, lt-leb, ltb-true, ltb-false}
+use lib.Dec.{leb, ltb}
 use lib.ListN.{length, getD, length-append}
 use Rattle.le.specs.Fields.{fieldBytes, u16Bytes}
 use Rattle.float.specs.Integers.{bit}
@@ -13,6 +13,7 @@ use Rattle.estimate.specs.Bytes.{estimateBytes}
 use Rattle.estimate.specs.declared.Estimate.{Estimate}
 use Rattle.estimate.proofs.EstimateLaws.{estimate-length}
 use Rattle.number_bytes.specs.Numbers.{numbersBytes}
+use Rattle.number_bytes.proofs.FilledLaws.{Filled, filled-length}
 use Rattle.records.specs.Lists.{tabulate}
 use Rattle.records.specs.Classes.{ColumnEquivalenceClass}
 use Rattle.sheet.specs.Sheet.{sheetOf}
@@ -148,6 +149,17 @@ module _ (roots : List ℕ) where
         go true l = refl
         go false l = refl
 
-    pub bytes-left-none : (i : ℕ) → 128 ≤ i → bytesLeft i ≡ []
+    bytes-left-none : (i : ℕ) → 128 ≤ i → bytesLeft i ≡ []
     unfolding classesBytes
     bytes-left-none i h = ap (λ (l : List ℕ). classesBytes (map classOf l)) (selected-end (isReturned roots) i 128 h)
+
+    -- a loop that has not written all classes stands at a root below 128
+    pub bytes-left-below : (out₀ out : List ℕ) (at i size : ℕ) → size ≡ classesSize roots → Filled bytesLeft out₀ out at i → at < size → i < 128
+    bytes-left-below out₀ out at i size e f h = go (ltb i 128) (ltb-true i 128) (ltb-false i 128)
+      where
+        go : (t : Bool) → (t ≡ true → i < 128) → (t ≡ false → 128 ≤ i) → i < 128
+        go true x y = x refl
+        go false x y =
+            let l = filled-length bytesLeft out₀ out at i (bytes-left-none i (y refl)) f in
+            let n = bytes-left-size in
+            absurd (omega arith)

@@ -48,14 +48,16 @@ fn put_member(roots: &[u8], root: u8, column: u16, out: &mut [u8]) -> usize
     0
 }
 
-pub fn put_members(roots: &[u8], root: u8, out: &mut [u8]) -> usize
-    requires { ⌜ 2 * memberCount (now roots) root ≤ length (now out) ⌝ }
+// All of them, where it is known how many there are.
+pub fn put_members(roots: &[u8], root: u8, count: u8, out: &mut [u8]) -> usize
+    requires { ⌜ (count ≡ memberCount (now roots) root) × (2 * memberCount (now roots) root ≤ length (now out)) ⌝ }
     ensures { λ r. ⌜ r ≡ 2 * memberCount (now (roots .entry)) root ⌝ }
     ensures { λ _. ⌜ now (out .exit) ≡ onto (numbersBytes (members (now (roots .entry)) root)) (now (out .entry)) ⌝ }
 {
+    let size = 2 * count as usize;
     let mut at: usize = 0;
     let mut column: u16 = 0;
-    while column < 128 {
+    while at < size {
         at += put_member(roots, root, column, &mut out[at..]);
         column += 1;
     }

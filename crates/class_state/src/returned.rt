@@ -75,7 +75,7 @@ fn put_class(
     put_u16(out, count as u16);
     let distinct = distinct_at(s, q, place_of(places, root));
     put_estimate(&mut out[2..], distinct);
-    28 + put_members(roots, root, &mut out[28..])
+    28 + put_members(roots, root, count, &mut out[28..])
 }
 
 // The same, if it is returned.
@@ -110,9 +110,10 @@ pub fn put_classes(
     ensures { λ r. ⌜ r ≡ classesSize (now (roots .entry)) ⌝ }
     ensures { λ _. ⌜ now (out .exit) ≡ onto (classesBytes (intoClasses (sheetOf (now (s .entry)) q) (stateOf (now (s .entry)) q (now (roots .entry)) (now (places .entry))))) (now (out .entry)) ⌝ }
 {
+    let size = classes_size(counts);
     let mut at: usize = 0;
     let mut root: u8 = 0;
-    while root < 128 {
+    while at < size {
         at += put_returned(
             s,
             q,

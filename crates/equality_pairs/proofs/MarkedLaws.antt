@@ -7,7 +7,8 @@ use native.Mathlib.Omega.{arith}
 use lib.ListN.{length, length-append}
 use Rattle.float.specs.Integers.{bit}
 use Rattle.selection.specs.Selected.{selected}
-use Rattle.selection.proofs.SelectedLaws.{oneSelected, selected-step, selected-end}
+use Rattle.selection.proofs.SelectedLaws.{oneSelected, selected-step, selected-end, selected-length}
+use Rattle.selection.proofs.WriteLaws.{Written, written-below}
 use Rattle.equality_pairs.specs.NonNull.{isMarked, markedColumns}
 
 module _ (test : ℕ → Bool) (limit : ℕ) where
@@ -48,3 +49,12 @@ bit-small m false e = omega arith
 pub whole : (marks : List Bool) (n : ℕ) → 2 * length (markedColumns marks) ≤ n → 2 * length (selected (isMarked marks) 0 128) ≤ n
 unfolding markedColumns
 whole marks n h = h
+
+pub marked-below : (marks : List Bool) → length (markedColumns marks) ≤ 128
+unfolding markedColumns
+marked-below marks = selected-length (isMarked marks) 0 128
+
+-- a loop that has not written all marked columns stands at one below 128
+pub stands-below : (marks : List Bool) (out₀ out : List ℕ) (at i size : ℕ) → size ≡ 2 * length (markedColumns marks) → Written (isMarked marks) 128 out₀ out at i → at < size → i < 128
+unfolding markedColumns
+stands-below marks out₀ out at i size e w h = written-below (isMarked marks) 128 out₀ out at i (omega arith) w

@@ -40,9 +40,10 @@ pub fn put_marked(marks: &[bool], out: &mut [u8]) -> usize
     ensures { λ r. ⌜ r ≡ 2 * length (markedColumns (now (marks .entry))) ⌝ }
     ensures { λ _. ⌜ now (out .exit) ≡ onto (numbersBytes (markedColumns (now (marks .entry)))) (now (out .entry)) ⌝ }
 {
+    let size = 2 * marked_count(marks);
     let mut at: usize = 0;
     let mut i: u16 = 0;
-    while i < 128 {
+    while at < size {
         at += put_if(&mut out[at..], is_marked(marks, i), i);
         i += 1;
     }

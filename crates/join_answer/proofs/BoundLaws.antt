@@ -18,7 +18,8 @@ use Rattle.equality_pairs.proofs.PairLaws.{pairs-length}
 use Rattle.edge_fold.specs.Coverages.{coverageSize, coveragesBytes}
 use Rattle.edge_fold.specs.Fold.{foldedPairs}
 use Rattle.join_parts.specs.Parts.{figuresPart}
-use Rattle.join_parts.proofs.PartLaws.{marked-below, figures-length}
+use Rattle.equality_pairs.proofs.MarkedLaws.{marked-below}
+use Rattle.join_parts.proofs.PartLaws.{figures-length}
 use Rattle.join.specs.Join.{JoinSelectivityEstimate, estimateOf, joinSelectivityFromConjuncts}
 use Rattle.edge_fold.proofs.CoverageLaws.{coverages-length}
 use Rattle.edge_fold.proofs.CountLaws.{coverage-count}

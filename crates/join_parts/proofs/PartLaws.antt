@@ -1,7 +1,6 @@
 -- The parts of a join's answer: how they are put one after the other, and how long they are. Assumes nothing.
 use Prim.Native.Nat.{ℕ, suc, _+_, _-_, _*_, _≤_}
 use mathlib.Core.Path.{_≡_, refl, ap, _∙_}
-use mathlib.Core.Bool.{Bool}
 use mathlib.Core.List.{List, _++_}
 use native.Mathlib.Omega.{arith}
 use lib.Ieee.{Float}
@@ -15,21 +14,15 @@ use Rattle.estimate.specs.Bytes.{estimateBytes}
 use Rattle.estimate.specs.declared.Estimate.{Estimate}
 use Rattle.number_bytes.specs.Numbers.{numbersBytes}
 use Rattle.number_bytes.proofs.NumberLaws.{numbers-length}
-use Rattle.selection.proofs.SelectedLaws.{selected-length}
 use Rattle.sheet.specs.Sheet.{Sheet}
 use Rattle.class_state.specs.State.{ClassState, returnedRoots, classAtRoot, intoClasses}
 use Rattle.class_state.specs.Bytes.{classesBytes}
 use Rattle.class_state.specs.Sizes.{classesSize}
 use Rattle.class_state.proofs.SizeLaws.{classes-size}
-use Rattle.equality_pairs.specs.NonNull.{isMarked, markedColumns}
 use Rattle.edge_fold.specs.Coverages.{coverageSize}
 use Rattle.join_parts.specs.Parts.{figuresPart, classesPart, coveragesPart, columnsPart}
 
 -- ---- counts
-
-pub marked-below : (marks : List Bool) → length (markedColumns marks) ≤ 128
-unfolding markedColumns
-marked-below marks = selected-length (isMarked marks) 0 128
 
 pub classes-length : (sheet : Sheet) (state : ClassState) → length (intoClasses sheet state) ≡ length (returnedRoots (state .roots))
 unfolding intoClasses

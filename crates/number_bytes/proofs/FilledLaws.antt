@@ -1,7 +1,7 @@
 -- Laws of a loop that writes its pieces one after the other. Assumes nothing.
 use Prim.Native.Nat.{ℕ, _+_, _-_, _≤_}
 use mathlib.Core.Path.{_≡_, refl, sym, ap, _∙_}
-use mathlib.Core.List.{List, [], _++_, append-nil, append-assoc}
+use mathlib.Core.List.{List, [], _∷_, _++_, append-nil, append-assoc}
 use native.Mathlib.Omega.{arith}
 use lib.ListN.{length, take, drop, length-append, length-take, length-drop}
 use Rattle.le.specs.Fields.{onto}
@@ -64,6 +64,17 @@ module _ (rest : ℕ → List ℕ) (out₀ : List ℕ) where
             reached = omega arith;
             left = next-left;
           }
+
+  -- where all bytes are written nothing is left
+  pub filled-none : (out : List ℕ) (at i : ℕ) → length (rest 0) ≤ at → Filled rest out₀ out at i → rest i ≡ []
+  filled-none out at i h f =
+      let a = ap length (sym (f .left)) ∙ length-append (f .done) (rest i) in
+      let r = f .reached in
+      empty (rest i) (omega arith)
+    where
+      empty : (l : List ℕ) → length l ≡ 0 → l ≡ []
+      empty [] e = refl
+      empty (x ∷ l) e = absurd (omega arith)
 
   module _ (out : List ℕ) (at i : ℕ) (none : rest i ≡ []) (f : Filled rest out₀ out at i) where
     all-done : f .done ≡ rest 0

@@ -1,14 +1,16 @@
 -- A loop that writes the selected numbers one after the other, two bytes each: a case of `Filled`. Assumes nothing.
 use Prim.Native.Nat.{ℕ, _+_, _-_, _*_, _≤_, _<_}
-use mathlib.Core.Path.{_≡_, sym, ap, _∙_}
-use mathlib.Core.Bool.{Bool}
+use mathlib.Core.Path.{_≡_, refl, sym, ap, _∙_}
+use mathlib.Core.Bool.{Bool, true, false}
 use mathlib.Core.List.{List, [], _++_}
 use native.Mathlib.Omega.{arith}
+use borrow.Author.Tests.{ltb-true, ltb-false}
+use lib.Dec.{ltb}
 use lib.ListN.{length, take, drop}
 use Rattle.le.specs.Fields.{onto}
 use Rattle.number_bytes.specs.Numbers.{numbersBytes}
 use Rattle.number_bytes.proofs.NumberLaws.{numbers-length, numbers-append}
-use Rattle.number_bytes.proofs.FilledLaws.{Filled, filled-first, filled-within, filled-room, filled-part, filled-next, filled-length, filled-all}
+use Rattle.number_bytes.proofs.FilledLaws.{Filled, filled-first, filled-within, filled-room, filled-part, filled-next, filled-none, filled-length, filled-all}
 use Rattle.selection.specs.Selected.{selected}
 use Rattle.selection.proofs.SelectedLaws.{oneSelected, selected-step, selected-end}
 
@@ -71,10 +73,23 @@ module _ (test : ℕ → Bool) (n : ℕ) (out₀ : List ℕ) where
         → Written test n out₀ (take at out ++ (Y ++ drop k (drop at out))) (at + m) (i + 1)
     written-next Y k m r f g y = filled-next (bytesFrom test n) out₀ (room r) out (numbersBytes one) at i w next Y k m (f ∙ sym (numbers-length one)) g y
 
-  module _ (out : List ℕ) (at i : ℕ) (h : n ≤ i) (w : Written test n out₀ out at i) where
+  -- a loop that has not written all stands at a number below n
+  pub written-below : (out : List ℕ) (at i : ℕ) → at < 2 * length whole → Written test n out₀ out at i → i < n
+  unfolding bytesFrom
+  written-below out at i h w = go (ltb i n) (ltb-true i n) (ltb-false i n)
+    where
+      go : (t : Bool) → (t ≡ true → i < n) → (t ≡ false → n ≤ i) → i < n
+      go true f g = f refl
+      go false f g =
+          let none = ap numbersBytes (selected-end test i n (g refl)) in
+          let e = filled-length (bytesFrom test n) out₀ out at i none w in
+          let l = all-length in
+          absurd (omega arith)
+
+  -- one that has written all is done
+  module _ (out : List ℕ) (at i : ℕ) (h : 2 * length whole ≤ at) (w : Written test n out₀ out at i) where
     none : bytesFrom test n i ≡ []
-    unfolding bytesFrom
-    none = ap numbersBytes (selected-end test i n h)
+    none = let l = all-length in filled-none (bytesFrom test n) out₀ out at i (omega arith) w
 
     pub written-length : at ≡ 2 * length whole
     written-length = filled-length (bytesFrom test n) out₀ out at i none w ∙ all-length

@@ -2,7 +2,7 @@
 use Prim.Native.Nat.{ℕ}
 use mathlib.Core.List.{List}
 use native.Mathlib.Omega.{arith}
-use Rattle.join_parts.proofs.PartLaws.{marked-below}
+use Rattle.equality_pairs.proofs.MarkedLaws.{marked-below}
 use borrow.Author.Needs.{needs}
 use Rattle.join_parts.proofs.join_size.Statement.{statement}
 use Rattle.join_parts.proofs.join_size.Tie as tie

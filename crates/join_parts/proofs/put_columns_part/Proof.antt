@@ -2,7 +2,8 @@
 use mathlib.Core.Path.{refl}
 use native.Mathlib.Omega.{arith}
 use Rattle.join_parts.specs.Parts.{columnsPart}
-use Rattle.join_parts.proofs.PartLaws.{marked-below, counted-written}
+use Rattle.equality_pairs.proofs.MarkedLaws.{marked-below}
+use Rattle.join_parts.proofs.PartLaws.{counted-written}
 use borrow.Author.Needs.{needs}
 use Rattle.join_parts.proofs.put_columns_part.Statement.{statement}
 use Rattle.join_parts.proofs.put_columns_part.Tie as tie
