@@ -11,6 +11,9 @@ use crate::Refusal;
 /// An entry answers a refusal's number above this.
 const REFUSED: u64 = 1 << 32;
 
+/// An entry that is asked about an expression.
+type Entry = unsafe extern "C" fn(*const u8, usize, u16, *mut u8, usize) -> u64;
+
 unsafe extern "C" {
     fn estimates_join(sheet: *const u8, length: usize, out: *mut u8, out_length: usize) -> u64;
     fn estimates_predicate(
@@ -38,30 +41,18 @@ pub fn join(sheet: &[u8], out: &mut [u8]) -> Result<usize, Refusal> {
 }
 
 pub fn predicate(sheet: &[u8], expression: u16, out: &mut [u8]) -> Result<usize, Refusal> {
-    // SAFETY: as in `join`; every number is allowed for the expression.
-    let answer = unsafe {
-        estimates_predicate(
-            sheet.as_ptr(),
-            sheet.len(),
-            expression,
-            out.as_mut_ptr(),
-            out.len(),
-        )
-    };
-    result(answer)
+    asked(estimates_predicate, sheet, expression, out)
 }
 
 pub fn split(sheet: &[u8], expression: u16, out: &mut [u8]) -> Result<usize, Refusal> {
+    asked(estimates_split, sheet, expression, out)
+}
+
+/// Calls one of the two entries that are asked about an expression.
+fn asked(entry: Entry, sheet: &[u8], expression: u16, out: &mut [u8]) -> Result<usize, Refusal> {
+    let (bytes, length) = (sheet.as_ptr(), sheet.len());
     // SAFETY: as in `join`; every number is allowed for the expression.
-    let answer = unsafe {
-        estimates_split(
-            sheet.as_ptr(),
-            sheet.len(),
-            expression,
-            out.as_mut_ptr(),
-            out.len(),
-        )
-    };
+    let answer = unsafe { entry(bytes, length, expression, out.as_mut_ptr(), out.len()) };
     result(answer)
 }
 

@@ -7,6 +7,7 @@
 mod growth;
 mod sheets;
 mod sides;
+mod tables;
 mod timing;
 
 use sheet::writer::write;
@@ -14,61 +15,8 @@ use sides::{Call, Side};
 use std::env;
 use std::hint::black_box;
 use std::process::ExitCode;
-use timing::{Time, both, one};
 
 const USAGE: &str = "speed table | speed growth | speed run SHEET library|source N";
-const ROUNDS: usize = 15;
-
-/// Both sides, in turn.
-fn timed(call: &Call) -> [Time; 2] {
-    let mut library = Call::new(call.sheet.clone(), call.question);
-    let mut source = Call::new(call.sheet.clone(), call.question);
-    both(
-        ROUNDS,
-        || library.run(Side::Library),
-        || source.run(Side::Source),
-    )
-}
-
-fn print_table() {
-    println!("| sheet | bytes | answer | library | source | times | fastest | source alone |");
-    println!("|---|---|---|---|---|---|---|---|");
-    for (name, sheet, question) in sheets::all() {
-        let mut call = Call::new(write(&sheet), question);
-        let length = call.run(Side::Library);
-        let [library, source] = timed(&call);
-        let loaded = oracle::analysis::load(&sheet);
-        let alone = one(ROUNDS, || sides::source_alone(&loaded, question));
-        println!(
-            "| {name} | {} | {length} | {:.2} us | {:.2} us | {:.1} | {:.1} | {:.2} us |",
-            call.sheet.len(),
-            library.middle / 1e3,
-            source.middle / 1e3,
-            source.middle / library.middle,
-            source.fastest / library.fastest,
-            alone.middle / 1e3,
-        );
-    }
-}
-
-fn print_growth() {
-    for series in growth::all() {
-        println!("| {} | bytes | library | source | times |", series.what);
-        println!("|---|---|---|---|---|");
-        for (count, sheet, question) in series.sheets {
-            let call = Call::new(write(&sheet), question);
-            let [library, source] = timed(&call);
-            println!(
-                "| {count} | {} | {:.2} us | {:.2} us | {:.1} |",
-                call.sheet.len(),
-                library.middle / 1e3,
-                source.middle / 1e3,
-                source.middle / library.middle,
-            );
-        }
-        println!();
-    }
-}
 
 fn run(name: &str, side: &str, calls: &str) -> Result<(), String> {
     let side = match side {
@@ -88,16 +36,20 @@ fn run(name: &str, side: &str, calls: &str) -> Result<(), String> {
     Ok(())
 }
 
+fn answer(words: &[&str]) -> Result<(), String> {
+    match *words {
+        ["table"] => tables::print_sheets(),
+        ["growth"] => tables::print_growth(),
+        ["run", sheet, side, calls] => return run(sheet, side, calls),
+        _ => return Err(USAGE.to_string()),
+    }
+    Ok(())
+}
+
 fn main() -> ExitCode {
     let words: Vec<String> = env::args().skip(1).collect();
     let words: Vec<&str> = words.iter().map(String::as_str).collect();
-    let done = match words[..] {
-        ["table"] => Ok(print_table()),
-        ["growth"] => Ok(print_growth()),
-        ["run", sheet, side, calls] => run(sheet, side, calls),
-        _ => Err(USAGE.to_string()),
-    };
-    match done {
+    match answer(&words) {
         Ok(()) => ExitCode::SUCCESS,
         Err(why) => {
             eprintln!("{why}");
@@ -105,3 +57,6 @@ fn main() -> ExitCode {
         }
     }
 }
+
+#[cfg(test)]
+mod tests;

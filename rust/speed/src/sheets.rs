@@ -201,7 +201,7 @@ pub fn limits(width: u16) -> Sheet {
     }
     sheet.tables = (1..=64).map(table).collect();
     sheet.keys = (0..32)
-        .flat_map(|name| [unique(2, 64 + name), foreign(1, name, 2, 64 + name)])
+        .flat_map(|name| [unique(2, 65 + name), foreign(1, name, 2, 65 + name)])
         .collect();
     sheet.classes = [classes(0, width), classes(64, width)];
     for column in 0..128 {
@@ -238,14 +238,15 @@ fn classes(first: u16, width: u16) -> Vec<Class> {
         .collect()
 }
 
-/// An equality of columns whose expressions have the columns' numbers.
+/// An equality of a left column and the right one behind it, whose expressions have the columns'
+/// numbers. Narrow classes make a chain of them, in which each joins two classes.
 fn equate_added(sheet: &mut Sheet, place: u16) {
     let conjunct = add(
         sheet,
         Expression::Binary {
             op: EQ,
             left: place,
-            right: 64 + place,
+            right: 65 + place,
         },
     );
     sheet.conjuncts.push(conjunct);
