@@ -154,12 +154,12 @@ module _ (roots : List ℕ) where
     bytes-left-none i h = ap (λ (l : List ℕ). classesBytes (map classOf l)) (selected-end (isReturned roots) i 128 h)
 
     -- a loop that has not written all classes stands at a root below 128
-    pub bytes-left-below : (out₀ out : List ℕ) (at i size : ℕ) → size ≡ classesSize roots → Filled bytesLeft out₀ out at i → at < size → i < 128
+    pub bytes-left-below : (out₀ out : List ℕ) (at i size : ℕ) → size ≡ classesSize roots → Filled bytesLeft (bytesLeft 0) out₀ out at i → at < size → i < 128
     bytes-left-below out₀ out at i size e f h = go (ltb i 128) (ltb-true i 128) (ltb-false i 128)
       where
         go : (t : Bool) → (t ≡ true → i < 128) → (t ≡ false → 128 ≤ i) → i < 128
         go true x y = x refl
         go false x y =
-            let l = filled-length bytesLeft out₀ out at i (bytes-left-none i (y refl)) f in
+            let l = filled-length bytesLeft (bytesLeft 0) out₀ out at i (bytes-left-none i (y refl)) f in
             let n = bytes-left-size in
             absurd (omega arith)

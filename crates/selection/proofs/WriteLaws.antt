@@ -21,7 +21,7 @@ bytesFrom test n i = numbersBytes (selected test i (n - i))
 
 -- what a loop over the numbers below n, that stands at the number i, has written into a slice that held out₀
 abbrev pub Written : (ℕ → Bool) → ℕ → List ℕ → List ℕ → ℕ → ℕ → Type 0
-Written test n out₀ out at i = Filled (bytesFrom test n) out₀ out at i
+Written test n out₀ out at i = Filled (bytesFrom test n) (bytesFrom test n 0) out₀ out at i
 
 module _ (test : ℕ → Bool) (n : ℕ) (out₀ : List ℕ) where
   abbrev whole : List ℕ
@@ -41,11 +41,11 @@ module _ (test : ℕ → Bool) (n : ℕ) (out₀ : List ℕ) where
   room r = let l = all-length in omega arith
 
   pub written-first : Written test n out₀ out₀ 0 0
-  written-first = filled-first (bytesFrom test n) out₀
+  written-first = filled-first (bytesFrom test n) (bytesFrom test n 0) out₀ 0 refl
 
   -- the slice keeps its length, and what was written lies within it
   pub written-within : (out : List ℕ) (at i : ℕ) → 2 * length whole ≤ length out₀ → Written test n out₀ out at i → (length out ≡ length out₀) × (at ≤ length out)
-  written-within out at i r w = filled-within (bytesFrom test n) out₀ (room r) out at i w
+  written-within out at i r w = filled-within (bytesFrom test n) (bytesFrom test n 0) out₀ (room r) out at i w
 
   module _ (out : List ℕ) (at i : ℕ) (h : i < n) (w : Written test n out₀ out at i) where
     abbrev one : List ℕ
@@ -58,20 +58,20 @@ module _ (test : ℕ → Bool) (n : ℕ) (out₀ : List ℕ) where
     -- there is room for the i-th
     pub written-room : 2 * length whole ≤ length out₀ → at + 2 * length one ≤ length out
     written-room r =
-        let m = filled-room (bytesFrom test n) out₀ (room r) out (numbersBytes one) at i w next in
+        let m = filled-room (bytesFrom test n) (bytesFrom test n 0) out₀ (room r) out (numbersBytes one) at i w next in
         let l = numbers-length one in
         omega arith
 
     -- also in the part that is lent for it
     pub written-part : 2 * length whole ≤ length out₀ → 2 * length one ≤ length (take (length out - at) (drop at out))
     written-part r =
-        let m = filled-part (bytesFrom test n) out₀ (room r) out (numbersBytes one) at i w next in
+        let m = filled-part (bytesFrom test n) (bytesFrom test n 0) out₀ (room r) out (numbersBytes one) at i w next in
         let l = numbers-length one in
         omega arith
 
     pub written-next : (Y : List ℕ) (k m : ℕ) → 2 * length whole ≤ length out₀ → m ≡ 2 * length one → k ≡ length out - at → Y ≡ onto (numbersBytes one) (take k (drop at out))
         → Written test n out₀ (take at out ++ (Y ++ drop k (drop at out))) (at + m) (i + 1)
-    written-next Y k m r f g y = filled-next (bytesFrom test n) out₀ (room r) out (numbersBytes one) at i w next Y k m (f ∙ sym (numbers-length one)) g y
+    written-next Y k m r f g y = filled-next (bytesFrom test n) (bytesFrom test n 0) out₀ (room r) out (numbersBytes one) at i w next Y k m (f ∙ sym (numbers-length one)) g y
 
   -- a loop that has not written all stands at a number below n
   pub written-below : (out : List ℕ) (at i : ℕ) → at < 2 * length whole → Written test n out₀ out at i → i < n
@@ -82,17 +82,17 @@ module _ (test : ℕ → Bool) (n : ℕ) (out₀ : List ℕ) where
       go true f g = f refl
       go false f g =
           let none = ap numbersBytes (selected-end test i n (g refl)) in
-          let e = filled-length (bytesFrom test n) out₀ out at i none w in
+          let e = filled-length (bytesFrom test n) (bytesFrom test n 0) out₀ out at i none w in
           let l = all-length in
           absurd (omega arith)
 
   -- one that has written all is done
   module _ (out : List ℕ) (at i : ℕ) (h : 2 * length whole ≤ at) (w : Written test n out₀ out at i) where
     none : bytesFrom test n i ≡ []
-    none = let l = all-length in filled-none (bytesFrom test n) out₀ out at i (omega arith) w
+    none = let l = all-length in filled-none (bytesFrom test n) (bytesFrom test n 0) out₀ out at i (omega arith) w
 
     pub written-length : at ≡ 2 * length whole
-    written-length = filled-length (bytesFrom test n) out₀ out at i none w ∙ all-length
+    written-length = filled-length (bytesFrom test n) (bytesFrom test n 0) out₀ out at i none w ∙ all-length
 
     pub written-all : out ≡ onto (numbersBytes whole) out₀
-    written-all = filled-all (bytesFrom test n) out₀ out at i none w ∙ ap (λ (l : List ℕ). onto l out₀) all
+    written-all = filled-all (bytesFrom test n) (bytesFrom test n 0) out₀ out at i none w ∙ ap (λ (l : List ℕ). onto l out₀) all

@@ -1,9 +1,9 @@
 -- Laws of conjuncts: what an expression gives, and the operands of a run one by one. Assumes nothing.
 use Prim.Native.Nat.{ℕ, _+_, _-_, _*_, _≤_, _<_, _^_, min}
 use mathlib.Core.Path.{_≡_, refl, sym, ap, _∙_}
-use mathlib.Core.List.{List, [], _∷_, _++_, append-nil, append-assoc}
+use mathlib.Core.List.{List, [], _∷_, _++_}
 use native.Mathlib.Omega.{arith}
-use lib.ListN.{length, take, drop, length-append, length-take, length-drop}
+use lib.ListN.{length, take, drop, length-append}
 use Rattle.records.specs.Lists.{tabulateFrom}
 use Rattle.records.specs.declared.expressions.Expression.{Expression}
 use Rattle.records.proofs.ListLaws.{tabulate-step, tabulate-end}
@@ -14,9 +14,9 @@ use Rattle.lookup.specs.Recursion.{below, byNumber}
 use Rattle.lookup.proofs.LookupLaws.{operands-from}
 use Rattle.lookup.proofs.RecursionLaws.{below-is, below-not}
 use Rattle.le.specs.Fields.{onto}
-use Rattle.le.proofs.OntoLaws.{onto-part, onto-length}
 use Rattle.number_bytes.specs.Numbers.{numbersBytes}
 use Rattle.number_bytes.proofs.NumberLaws.{numbers-length, numbers-append}
+use Rattle.number_bytes.proofs.FilledLaws.{Filled, filled-first, filled-within, filled-room, filled-part, filled-next, filled-length, filled-all}
 use Rattle.split.specs.Conjuncts.{andRun, flattened, runConjuncts, conjunctsBy, itself, conjuncts}
 use Rattle.split.specs.declared.run.AndRun.{AndRun}
 use Rattle.split.specs.declared.run.AndRun.the-variants.{Absent, Present}
@@ -93,86 +93,66 @@ module _ (s : List ℕ) (q : Sections) (first count : ℕ) (conjunctsOf : ℕ �
       plain : (sum : ℕ) → sum ≤ 2 ^ 64 - 1 → sum ≡ min (sum + 0) (2 ^ 64 - 1)
       plain sum k = omega arith
 
--- ---- written
+-- ---- written: a case of `Filled`
+
+-- the bytes of the conjuncts of the operands from the i-th on
+unfoldable pub bytesFrom : List ℕ → Sections → ℕ → ℕ → (ℕ → List ℕ) → ℕ → ℕ → List ℕ
+unfolding flattened numbersBytes
+bytesFrom s q first count conjunctsOf end i = numbersBytes (restFrom s q first count conjunctsOf i end)
 
 -- what a loop that stands at the i-th operand has written into a slice that held out₀
-pub record Written (s : List ℕ) (q : Sections) (first count : ℕ) (conjunctsOf : ℕ → List ℕ) (out₀ out : List ℕ) (at i end : ℕ) : Type 0 where
-  pub done : List ℕ
-  pub placed : out ≡ onto (numbersBytes done) out₀
-  pub reached : at ≡ 2 * length done
-  pub left : done ++ restFrom s q first count conjunctsOf i end ≡ flattened conjunctsOf (operandsOf (sheetOf s q) first count)
+abbrev pub Written : List ℕ → Sections → ℕ → ℕ → (ℕ → List ℕ) → List ℕ → List ℕ → ℕ → ℕ → ℕ → Type 0
+Written s q first count conjunctsOf out₀ out at i end =
+    Filled (bytesFrom s q first count conjunctsOf end) (numbersBytes (flattened conjunctsOf (operandsOf (sheetOf s q) first count))) out₀ out at i
 
 module _ (s : List ℕ) (q : Sections) (first count : ℕ) (conjunctsOf : ℕ → List ℕ) (out₀ : List ℕ) where
   abbrev whole : List ℕ
   whole = flattened conjunctsOf (operandsOf (sheetOf s q) first count)
 
+  room : 2 * length whole ≤ length out₀ → length (numbersBytes whole) ≤ length out₀
+  room r = let l = numbers-length whole in omega arith
+
   pub written-first : (end : ℕ) → end ≡ min (first + count) (length (sheetOf s q .operands)) → Written s q first count conjunctsOf out₀ out₀ 0 first end
-  unfolding onto numbersBytes
-  written-first end h = record { done = []; placed = refl; reached = refl; left = rest-first s q first count conjunctsOf end h }
+  unfolding bytesFrom
+  written-first end h = filled-first (bytesFrom s q first count conjunctsOf end) (numbersBytes whole) out₀ first (ap numbersBytes (rest-first s q first count conjunctsOf end h))
 
   -- the slice keeps its length, and what was written lies within it
   pub written-within : (out : List ℕ) (at i end : ℕ) → 2 * length whole ≤ length out₀ → Written s q first count conjunctsOf out₀ out at i end → (length out ≡ length out₀) × (at ≤ length out)
-  written-within out at i end r w =
-      let a = ap length (sym (w .left)) ∙ length-append (w .done) (restFrom s q first count conjunctsOf i end) in
-      let d = numbers-length (w .done) in
-      let n = w .reached in
-      let l = ap length (w .placed) ∙ onto-length (numbersBytes (w .done)) out₀ (omega arith) in
-      (l, omega arith)
+  written-within out at i end r w = filled-within (bytesFrom s q first count conjunctsOf end) (numbersBytes whole) out₀ (room r) out at i w
 
   module _ (out : List ℕ) (at i end o : ℕ) (h : i < end) (e : o ≡ operandIn s (q .operands) i) (w : Written s q first count conjunctsOf out₀ out at i end) where
-    next-left : (w .done ++ conjunctsOf o) ++ restFrom s q first count conjunctsOf (i + 1) end ≡ whole
-    next-left =
-        append-assoc (w .done) (conjunctsOf o) (restFrom s q first count conjunctsOf (i + 1) end)
-        ∙ ap (λ (p : ℕ). w .done ++ (conjunctsOf p ++ restFrom s q first count conjunctsOf (i + 1) end)) e
-        ∙ ap (λ (l : List ℕ). w .done ++ l) (sym (rest-next s q first count conjunctsOf i end h))
-        ∙ w .left
-
-    next-length : at + 2 * length (conjunctsOf o) ≤ 2 * length whole
-    next-length =
-        let a = ap length (sym next-left) ∙ length-append (w .done ++ conjunctsOf o) (restFrom s q first count conjunctsOf (i + 1) end) in
-        let b = length-append (w .done) (conjunctsOf o) in
-        let r = w .reached in
-        omega arith
+    next : bytesFrom s q first count conjunctsOf end i ≡ numbersBytes (conjunctsOf o) ++ bytesFrom s q first count conjunctsOf end (i + 1)
+    unfolding bytesFrom
+    next =
+        ap numbersBytes (rest-next s q first count conjunctsOf i end h ∙ ap (λ (p : ℕ). conjunctsOf p ++ restFrom s q first count conjunctsOf (i + 1) end) (sym e))
+        ∙ numbers-append (conjunctsOf o) (restFrom s q first count conjunctsOf (i + 1) end)
 
     -- there is room for the operand's
     pub written-room : 2 * length whole ≤ length out₀ → at + 2 * length (conjunctsOf o) ≤ length out
     written-room r =
-        let n = next-length in
-        let d = numbers-length (w .done) in
-        let a = w .reached in
-        let l = ap length (w .placed) ∙ onto-length (numbersBytes (w .done)) out₀ (omega arith) in
+        let m = filled-room (bytesFrom s q first count conjunctsOf end) (numbersBytes whole) out₀ (room r) out (numbersBytes (conjunctsOf o)) at i w next in
+        let l = numbers-length (conjunctsOf o) in
         omega arith
 
     -- also in the part that is lent for it
     pub written-part : 2 * length whole ≤ length out₀ → 2 * length (conjunctsOf o) ≤ length (take (length out - at) (drop at out))
     written-part r =
-        let n = written-room r in
-        let d = length-drop at out in
-        let t = length-take (length out - at) (drop at out) in
+        let m = filled-part (bytesFrom s q first count conjunctsOf end) (numbersBytes whole) out₀ (room r) out (numbersBytes (conjunctsOf o)) at i w next in
+        let l = numbers-length (conjunctsOf o) in
         omega arith
 
     pub written-next : (Y : List ℕ) (k n : ℕ) → 2 * length whole ≤ length out₀ → n ≡ 2 * length (conjunctsOf o) → k ≡ length out - at → Y ≡ onto (numbersBytes (conjunctsOf o)) (take k (drop at out))
         → Written s q first count conjunctsOf out₀ (take at out ++ (Y ++ drop k (drop at out))) (at + n) (i + 1) end
     written-next Y k n r f g y =
-        let d = numbers-length (w .done) in
-        let a = w .reached in
-        let m = next-length in
-        record {
-          done = w .done ++ conjunctsOf o;
-          placed = onto-part (numbersBytes (w .done)) (numbersBytes (conjunctsOf o)) out₀ out Y at k (omega arith) g (omega arith) (w .placed) y ∙ ap (λ (l : List ℕ). onto l out₀) (sym (numbers-append (w .done) (conjunctsOf o)));
-          reached = ap (λ (x : ℕ). at + x) f ∙ sum at (length (w .done)) (length (conjunctsOf o)) a ∙ ap (λ (x : ℕ). 2 * x) (sym (length-append (w .done) (conjunctsOf o)));
-          left = next-left;
-        }
-      where
-        sum : (at a b : ℕ) → at ≡ 2 * a → at + 2 * b ≡ 2 * (a + b)
-        sum at a b h = omega arith
+        filled-next (bytesFrom s q first count conjunctsOf end) (numbersBytes whole) out₀ (room r) out (numbersBytes (conjunctsOf o)) at i w next Y k n (f ∙ sym (numbers-length (conjunctsOf o))) g y
 
   module _ (out : List ℕ) (at i end : ℕ) (h : end ≤ i) (w : Written s q first count conjunctsOf out₀ out at i end) where
-    all-done : w .done ≡ whole
-    all-done = sym (append-nil (w .done)) ∙ ap (λ (l : List ℕ). w .done ++ l) (sym (rest-none s q first count conjunctsOf i end h)) ∙ w .left
+    none : bytesFrom s q first count conjunctsOf end i ≡ []
+    unfolding bytesFrom
+    none = ap numbersBytes (rest-none s q first count conjunctsOf i end h)
 
     pub written-length : at ≡ 2 * length whole
-    written-length = w .reached ∙ ap (λ (l : List ℕ). 2 * length l) all-done
+    written-length = filled-length (bytesFrom s q first count conjunctsOf end) (numbersBytes whole) out₀ out at i none w ∙ numbers-length whole
 
     pub written-all : out ≡ onto (numbersBytes whole) out₀
-    written-all = w .placed ∙ ap (λ (l : List ℕ). onto (numbersBytes l) out₀) all-done
+    written-all = filled-all (bytesFrom s q first count conjunctsOf end) (numbersBytes whole) out₀ out at i none w

@@ -14,7 +14,7 @@ use Rattle.class_state.proofs.returned.put_classes.Statement.{statement
 use Rattle.class_state.proofs.returned.put_classes.Tie as tie
 
 abbrev Inv-loop : tie.InvT-loop
-Inv-loop s q roots counts places out₀ size at₀ root₀ out at root = (size ≡ classesSize roots) × (length out ≡ length out₀) × (at ≤ length out) × Filled (bytesLeft roots s q places) out₀ out at root
+Inv-loop s q roots counts places out₀ size at₀ root₀ out at root = (size ≡ classesSize roots) × (length out ≡ length out₀) × (at ≤ length out) × Filled (bytesLeft roots s q places) (bytesLeft roots s q places 0) out₀ out at root
 
 abbrev μ-loop : tie.MeasureT-loop
 μ-loop s q roots counts places out₀ size at₀ root₀ out at root = 128 - root
@@ -23,7 +23,7 @@ classes-size-requires : tie.Need-classes-size-requires Inv-loop μ-loop
 classes-size-requires c κs = let start = c .before .before .before .before .before in counts-length (start .args .roots .now) _ (start .pre .0)
 
 loop-holds : tie.Need-loop-holds Inv-loop μ-loop
-loop-holds c = let start = c .before .before .before .before .before .before in (c .classes-size .ensures .0 (start .args .roots .now) (start .pre .0), refl, omega arith, filled-first _ _)
+loop-holds c = let start = c .before .before .before .before .before .before in (c .classes-size .ensures .0 (start .args .roots .now) (start .pre .0), refl, omega arith, filled-first _ _ _ 0 refl)
 
 cast-put-returned : tie.Need-cast-put-returned Inv-loop μ-loop
 cast-put-returned c = let start = c .before .before .before .before .before .before .before .before in
@@ -59,7 +59,7 @@ put-returned-requires c κs = let start = c .before .before .before .before .bef
     let room = bytes-left-room (a .roots .now) (a .s .now) (a .q) (a .places .now) _ (start .pre .1) in
     let next = bytes-left-next (a .roots .now) (a .s .now) (a .q) (a .places .now) (l .root) h in
     let n = returned-length (a .roots .now) (a .s .now) (a .q) (a .places .now) (l .root) in
-    let p = filled-part rest (a .out .now) room (l .out) piece (l .at) (l .root) (l .inv .3) next in
+    let p = filled-part rest (rest 0) (a .out .now) room (l .out) piece (l .at) (l .root) (l .inv .3) next in
     (count-at (a .roots .now) _ (l .root) (start .pre .0) h, omega arith)
 
 add-at : tie.Need-add-at Inv-loop μ-loop
@@ -72,7 +72,7 @@ add-at c = let start = c .before .before .before .before .before .before .before
     let room = bytes-left-room (a .roots .now) (a .s .now) (a .q) (a .places .now) _ (start .pre .1) in
     let next = bytes-left-next (a .roots .now) (a .s .now) (a .q) (a .places .now) (l .root) h in
     let n = returned-length (a .roots .now) (a .s .now) (a .q) (a .places .now) (l .root) in
-    let p = filled-room rest (a .out .now) room (l .out) piece (l .at) (l .root) (l .inv .3) next in
+    let p = filled-room rest (rest 0) (a .out .now) room (l .out) piece (l .at) (l .root) (l .inv .3) next in
     let e = c .before .before .put-returned .ensures .0 in
     omega arith
 
@@ -101,8 +101,8 @@ loop-again c = let start = c .before .before .before .before .before .before .be
     let next = bytes-left-next (a .roots .now) (a .s .now) (a .q) (a .places .now) (l .root) h in
     let n = returned-length (a .roots .now) (a .s .now) (a .q) (a .places .now) (l .root) in
     let e = c .before .before .put-returned .ensures in
-    let f = filled-next rest (a .out .now) room (l .out) piece (l .at) (l .root) (l .inv .3) next _ _ _ (e .0 ∙ sym n) refl (e .1) in
-    let w = filled-within rest (a .out .now) room _ _ _ f in
+    let f = filled-next rest (rest 0) (a .out .now) room (l .out) piece (l .at) (l .root) (l .inv .3) next _ _ _ (e .0 ∙ sym n) refl (e .1) in
+    let w = filled-within rest (rest 0) (a .out .now) room _ _ _ f in
     (l .inv .0, w .0, w .1, f)
 
 same-length : tie.Need-same-length Inv-loop μ-loop
@@ -114,8 +114,8 @@ returns c =
     let a = c .before .before .before .before .before .before .before .before .args in
     let rest = bytesLeft (a .roots .now) (a .s .now) (a .q) (a .places .now) in
     let size = bytes-left-size (a .roots .now) (a .s .now) (a .q) (a .places .now) in
-    let n = filled-none rest (a .out .now) (l .out) (l .at) (l .root) (let e = l .inv .0 in let h = c .loop-test .left in omega arith) (l .inv .3) in
-    (filled-length rest (a .out .now) (l .out) (l .at) (l .root) n (l .inv .3) ∙ size, filled-all rest (a .out .now) (l .out) (l .at) (l .root) n (l .inv .3) ∙ ap (λ (bs : List ℕ). onto bs (a .out .now)) (bytes-left-first (a .roots .now) (a .s .now) (a .q) (a .places .now)))
+    let n = filled-none rest (rest 0) (a .out .now) (l .out) (l .at) (l .root) (let e = l .inv .0 in let h = c .loop-test .left in omega arith) (l .inv .3) in
+    (filled-length rest (rest 0) (a .out .now) (l .out) (l .at) (l .root) n (l .inv .3) ∙ size, filled-all rest (rest 0) (a .out .now) (l .out) (l .at) (l .root) n (l .inv .3) ∙ ap (λ (bs : List ℕ). onto bs (a .out .now)) (bytes-left-first (a .roots .now) (a .s .now) (a .q) (a .places .now)))
 
 pub put-classes-spec : {M : Type 1} → statement M
 put-classes-spec =
