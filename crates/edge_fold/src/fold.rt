@@ -12,6 +12,7 @@ ghost use Rattle.equality_pairs.specs.NonNull.{nonNullMarks};
 ghost use Rattle.edge_fold.specs.Fold.{noEquality, zeroed, multiplied, withEstimate, coverageOf, coverageUnless, edgeEstimate, edgeFigures, edgeCoverages, withEdges, foldedPairs};
 ghost use Rattle.edge_fold.specs.Coverages.{coverageSize, Appended};
 ghost use Rattle.edge_fold.specs.Held.{heldEdge, edgeAt, Holds};
+use crate::coverages::COVERAGE_SIZE;
 use crate::coverages::put_coverage;
 use crate::edges::PlacedEdge;
 use crate::edges::placed_edge;
@@ -94,7 +95,7 @@ fn append_coverage(coverage: LeftCoverage, n: usize, out: &mut [u8]) -> usize
     match coverage {
         LeftCoverage::Absent => n,
         LeftCoverage::Present(c) => {
-            put_coverage(&mut out[43 * n..], c);
+            put_coverage(&mut out[COVERAGE_SIZE * n..], c);
             n + 1
         }
     }

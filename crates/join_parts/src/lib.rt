@@ -15,6 +15,7 @@ ghost use Rattle.join_parts.specs.Parts.{figuresPart, classesPart, cover
 use class_state::returned::class_count;
 use class_state::returned::classes_size;
 use class_state::returned::put_classes;
+use edge_fold::coverages::COVERAGE_SIZE;
 use equality_pairs::marked::marked_count;
 use equality_pairs::marked::put_marked;
 use estimate::Estimate;
@@ -76,8 +77,8 @@ fn put_coverages_part(bytes: &[u8], n: usize, out: &mut [u8]) -> usize
     ensures { λ _. ⌜ now (out .exit) ≡ onto (coveragesPart n (now (bytes .entry))) (now (out .entry)) ⌝ }
 {
     put_u16(out, n as u16);
-    put_bytes(bytes, 43 * n, &mut out[2..]);
-    2 + 43 * n
+    put_bytes(bytes, COVERAGE_SIZE * n, &mut out[2..]);
+    2 + COVERAGE_SIZE * n
 }
 
 fn put_columns_part(marks: &[bool], out: &mut [u8])
@@ -121,5 +122,5 @@ pub fn join_size(counts: &[u8], coverages: usize, marks: &[bool]) -> usize
     requires { ⌜ (length (now counts) ≡ columnLimit) × (coverages ≤ 64) ⌝ }
     ensures { λ r. ⌜ ((roots : List ℕ) → now (counts .entry) ≡ tabulate (memberCount roots) columnLimit → r ≡ 68 + classesSize roots + coverageSize * coverages + 2 * length (markedColumns (now (marks .entry)))) ⌝ }
 {
-    68 + classes_size(counts) + 43 * coverages + 2 * marked_count(marks)
+    68 + classes_size(counts) + COVERAGE_SIZE * coverages + 2 * marked_count(marks)
 }
