@@ -1,11 +1,13 @@
--- How many classes are returned, and how many bytes they take. Assumes nothing.
-use Prim.Native.Nat.{ℕ, suc, _+_, _-_, _*_, _≤_, _<_}
+-- How many classes are returned, how many bytes they take, and how many at most. Assumes nothing.
+use Prim.Native.Nat.{ℕ, zero, suc, _+_, _-_, _*_, _≤_, _<_}
 use mathlib.Core.Path.{_≡_, refl, sym, ap, _∙_}
 use mathlib.Core.Bool.{Bool, true, false, cond}
-use mathlib.Core.List.{List, [], _∷_, _++_, map}
+use mathlib.Core.List.{List, [], _∷_, _++_, map, List·Memᴰ, List·Memᴰ·head, List·Memᴰ·tail}
 use native.Mathlib.Omega.{arith}
-use native.Mathlib.Nat.{zero-add}
-use lib.ListN.{length, length-append}
+use native.Mathlib.Nat.{zero-add, mul-add}
+use borrow.Author.Tests.{eqb-true, ne-eqb, leb-true}
+use lib.Dec.{eqb}
+use lib.ListN.{length, getD, length-append}
 use Rattle.le.specs.Fields.{fieldBytes, u16Bytes}
 use Rattle.float.specs.Integers.{bit}
 use Rattle.estimate.specs.Bytes.{estimateBytes}
@@ -15,7 +17,7 @@ use Rattle.number_bytes.proofs.NumberLaws.{numbers-length}
 use Rattle.records.specs.Classes.{ColumnEquivalenceClass}
 use Rattle.sheet.specs.Sheet.{Sheet}
 use Rattle.selection.specs.Selected.{selected}
-use Rattle.selection.proofs.SelectedLaws.{oneSelected, selected-length, selected-step, selected-end}
+use Rattle.selection.proofs.SelectedLaws.{Rising, none, next, oneSelected, selected-in, selected-length, selected-rising, selected-step, selected-end}
 use Rattle.class_state.specs.State.{ClassState, hasRoot, members, isReturned, returnedRoots, classAtRoot, intoClasses}
 use Rattle.class_state.specs.Bytes.{classBytes, classesBytes}
 use Rattle.class_state.specs.Sizes.{memberCount, classSize, sizeAtRoot, sumOver, classesSize}
@@ -29,25 +31,6 @@ members-below roots root = selected-length (hasRoot roots root) 0 128
 pub class-count-below : (roots : List ℕ) → length (returnedRoots roots) ≤ 128
 unfolding returnedRoots
 class-count-below roots = selected-length (isReturned roots) 0 128
-
-sum-below : (f : ℕ → ℕ) (b : ℕ) (l : List ℕ) → ((x : ℕ) → f x ≤ b) → sumOver f l ≤ b * length l
-unfolding sumOver
-sum-below f b [] h = omega arith
-sum-below f b (x ∷ l) h = more (f x) (sumOver f l) (length l) (h x) (sum-below f b l h)
-  where
-    more : (a r n : ℕ) → a ≤ b → r ≤ b * n → a + r ≤ b * suc n
-    more a r n p q = omega arith
-
-class-below : (n : ℕ) → n ≤ 128 → classSize n ≤ 284
-class-below n h = omega arith
-
-all-below : (size n : ℕ) → n ≤ 128 → size ≤ 284 * n → size ≤ 128 * 284
-all-below size n h k = omega arith
-
-pub classes-size-below : (roots : List ℕ) → classesSize roots ≤ 128 * 284
-unfolding classesSize
-classes-size-below roots =
-    all-below (classesSize roots) (length (returnedRoots roots)) (class-count-below roots) (sum-below (sizeAtRoot roots) 284 (returnedRoots roots) (λ (root : ℕ). class-below (memberCount roots root) (members-below roots root)))
 
 -- ---- the bytes
 
@@ -102,3 +85,83 @@ module _ (test : ℕ → Bool) (i n : ℕ) where
     pub sum-end : n ≤ i → sumOver f (selected test i (n - i)) ≡ 0
     unfolding sumOver
     sum-end h = ap (sumOver f) (selected-end test i n h)
+
+-- ---- sums over lists
+
+sum-most : (f g : ℕ → ℕ) (b : ℕ) (l : List ℕ) → ((x : ℕ) → List·Memᴰ x l → f x ≤ b * g x) → sumOver f l ≤ b * sumOver g l
+unfolding sumOver
+sum-most f g b [] h = omega arith
+sum-most f g b (x ∷ l) h =
+    let first = h x (List·Memᴰ·head refl) in
+    let rest = sum-most f g b l (λ (y : ℕ) (m : List·Memᴰ y l). h y (List·Memᴰ·tail m)) in
+    let both = mul-add b (g x) (sumOver g l) in
+    omega arith
+
+sum-both : (f g : ℕ → ℕ) (l : List ℕ) → sumOver (λ (x : ℕ). f x + g x) l ≡ sumOver f l + sumOver g l
+unfolding sumOver
+sum-both f g [] = refl
+sum-both f g (x ∷ l) = let rest = sum-both f g l in omega arith
+
+-- how often r stands in a list
+abbrev times : ℕ → List ℕ → ℕ
+times r l = sumOver (λ (x : ℕ). bit (eqb r x)) l
+
+below-not : (r i : ℕ) (l : List ℕ) → r < i → Rising i l → times r l ≡ 0
+unfolding sumOver
+below-not r i [] h none = refl
+below-not r i (x ∷ l) h (next p rising) =
+    let rest = below-not r (suc x) l (omega arith) rising in
+    rw (ne-eqb r x (λ (e : r ≡ x). omega arith)) (omega arith)
+
+-- in a list that rises it stands at most once
+rising-times : (r i : ℕ) (l : List ℕ) → Rising i l → times r l ≤ 1
+unfolding sumOver
+rising-times r i [] none = omega arith
+rising-times r i (x ∷ l) (next p rising) = go (eqb r x) (eqb-true r x) (rising-times r (suc x) l rising)
+  where
+    go : (t : Bool) → (t ≡ true → r ≡ x) → times r l ≤ 1 → bit t + times r l ≤ 1
+    go true same most =
+        let e = same refl in
+        let z = below-not r (suc x) l (omega arith) rising in
+        omega arith
+    go false same most = omega arith
+
+-- ---- how many bytes, at most
+
+-- each column has one root, so roots that differ share no column
+module _ (roots l : List ℕ) (rising : Rising 0 l) (n : ℕ) where
+  abbrev columnsFrom : ℕ → ℕ → ℕ
+  columnsFrom i root = length (selected (hasRoot roots root) i (n - i))
+
+  shared-from : (k i : ℕ) → n - i ≡ k → sumOver (columnsFrom i) l ≤ k
+  shared-from zero i e =
+      let h = sum-most (columnsFrom i) (columnsFrom i) 0 l (λ (root : ℕ) (m : List·Memᴰ root l). let c = count-end (hasRoot roots root) i n (omega arith) in omega arith) in
+      omega arith
+  shared-from (suc k) i e =
+      let h : i < n = omega arith in
+      let step : sumOver (columnsFrom i) l ≡ sumOver (λ (root : ℕ). bit (hasRoot roots root i) + columnsFrom (i + 1) root) l = λ j. sumOver (λ (root : ℕ). count-step (hasRoot roots root) i n h j) l in
+      let both = sum-both (λ (root : ℕ). bit (hasRoot roots root i)) (columnsFrom (i + 1)) l in
+      let one = rising-times (getD roots i 0) 0 l rising in
+      let rest = shared-from k (i + 1) (omega arith) in
+      omega arith
+
+returned-members : (roots : List ℕ) → sumOver (memberCount roots) (returnedRoots roots) ≤ 128
+unfolding members returnedRoots
+returned-members roots = shared-from roots (returnedRoots roots) (selected-rising (isReturned roots) 0 128) 128 128 0 refl
+
+-- a class that is returned has two columns or more
+class-below : (n : ℕ) → 2 ≤ n → classSize n ≤ 16 * n
+class-below n h = omega arith
+
+returned-two : (roots : List ℕ) (root : ℕ) → List·Memᴰ root (returnedRoots roots) → 2 ≤ memberCount roots root
+unfolding returnedRoots
+returned-two roots root m = leb-true 2 (memberCount roots root) (selected-in (isReturned roots) 0 128 root m .2)
+
+all-below : (size n : ℕ) → n ≤ 128 → size ≤ 16 * n → size ≤ 2048
+all-below size n h k = omega arith
+
+pub classes-size-below : (roots : List ℕ) → classesSize roots ≤ 2048
+unfolding classesSize
+classes-size-below roots =
+    all-below (classesSize roots) (sumOver (memberCount roots) (returnedRoots roots)) (returned-members roots)
+    (sum-most (sizeAtRoot roots) (memberCount roots) 16 (returnedRoots roots) (λ (root : ℕ) (m : List·Memᴰ root (returnedRoots roots)). class-below (memberCount roots root) (returned-two roots root m)))

@@ -58,8 +58,8 @@ module _ (j : JoinSelectivityEstimate) where
       let o = numbers-length (j .nonNullEqualityColumns) in
       omega arith
 
--- 128 classes of 284 bytes are more than there can be
-pub join-within : (sheet : Sheet) → length (sheet .conjuncts) ≤ 64 → length (joinBytes (joinOf sheet)) ≤ 39428
+-- 68 for the figures and the counts, 2,048 for the classes, 43 for each of 64 coverages, 2 for each of 128 columns
+pub join-within : (sheet : Sheet) → length (sheet .conjuncts) ≤ 64 → length (joinBytes (joinOf sheet)) ≤ 5124
 unfolding joinSelectivityFromConjuncts estimateOf
 join-within sheet h = sum _ _ _ _ _ _ _ (join-length (joinOf sheet)) (classes-size sheet state) (classes-size-below (state .roots)) (coverage-count sheet pairs) (pairs-length sheet (sheet .conjuncts)) h (marked-below (nonNullMarks pairs))
   where
@@ -69,5 +69,5 @@ join-within sheet h = sum _ _ _ _ _ _ _ (join-length (joinOf sheet)) (classes-si
     state : ClassState
     state = foldedPairs sheet pairs .classes
 
-    sum : (all classes size coverages ps conjuncts columns : ℕ) → all ≡ 68 + classes + coverageSize * coverages + 2 * columns → classes ≡ size → size ≤ 128 * 284 → coverages ≤ ps → ps ≤ conjuncts → conjuncts ≤ 64 → columns ≤ 128 → all ≤ 39428
+    sum : (all classes size coverages ps conjuncts columns : ℕ) → all ≡ 68 + classes + coverageSize * coverages + 2 * columns → classes ≡ size → size ≤ 2048 → coverages ≤ ps → ps ≤ conjuncts → conjuncts ≤ 64 → columns ≤ 128 → all ≤ 5124
     sum all classes size coverages ps conjuncts columns a b c d e f g = omega arith

@@ -31,7 +31,7 @@ pub reply-fits : (s : List ℕ) → Small (joinResult s)
 unfolding joinResult sheetIn
 reply-fits s bs e = go (check s) refl e
   where
-    within : (a b c : ℕ) → a ≡ b → a ≡ c → b ≤ 39428 → c ≤ 65536
+    within : (a b c : ℕ) → a ≡ b → a ≡ c → b ≤ 5124 → c ≤ 65536
     within a b c e f h = omega arith
 
     go : (c : Checked) → check s ≡ c → sheetResult c (bytes (joinBytes (joinOf (sheetIn s)))) ≡ bytes bs → length bs ≤ 65536

@@ -30,7 +30,7 @@ extern "C" {
 #define ESTIMATES_REFUSED ((uint64_t)1 << 32)
 
 /* Outputs of so many bytes are never too short. */
-#define ESTIMATES_LONGEST_JOIN 39428
+#define ESTIMATES_LONGEST_JOIN 5124
 #define ESTIMATES_LONGEST_PREDICATE 26
 #define ESTIMATES_LONGEST_SPLIT 1026
 

@@ -94,9 +94,8 @@ use sheet::answers::read_split;
 /// with 12.
 ///
 /// It is the bound that `join-within` proves (`crates/join_answer/proofs/BoundLaws.antt` of the
-/// repository). Answers stay well below it: counted by their sections, they have at most 5,124
-/// bytes (`docs/JOIN.md`).
-pub const LONGEST_JOIN: usize = 39_428;
+/// repository), and there are sheets whose answer has so many.
+pub const LONGEST_JOIN: usize = 5_124;
 
 /// Every predicate's answer has so many bytes: one estimate.
 pub const LONGEST_PREDICATE: usize = 26;

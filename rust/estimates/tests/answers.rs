@@ -111,7 +111,35 @@ fn the_deepest_expression() {
     assert_eq!(join(&bytes).unwrap().residual, 0.25);
 }
 
-/// The longest answers that a sheet gets: the split of 512 operands, and a predicate.
+/// 64 equalities, each of a left column and a right one that no other names.
+fn apart() -> Sheet {
+    let mut expressions: Vec<_> = (0..128).map(Expression::Column).collect();
+    expressions.extend((0..64).map(|left| Expression::Binary {
+        op: worked::EQ,
+        left,
+        right: left + 64,
+    }));
+    Sheet {
+        columns: [0..64, 64..128].map(|side| side.map(samples::column).collect()),
+        expressions,
+        conjuncts: (128..192).collect(),
+        ..empty()
+    }
+}
+
+/// The longest answer to a join: one byte less is too short for it.
+#[test]
+fn the_longest_join() {
+    let bytes = write(&apart());
+    let answer = every_size(LONGEST_JOIN, |out| join_bytes(&bytes, out));
+    assert_eq!(answer.len(), LONGEST_JOIN);
+    let join = join(&bytes).unwrap();
+    assert_eq!(join.classes.len(), 64);
+    assert_eq!(join.coverages.len(), 64);
+    assert_eq!(join.non_null, Vec::from_iter(0..128));
+}
+
+/// The longest answers to a split, that of 512 operands, and to a predicate.
 #[test]
 fn the_longest_split_and_predicate() {
     let bytes = write(&samples::largest());
