@@ -31,12 +31,12 @@ use Rattle.scalar_bytes.specs.Encoding.{lawfulScalar}
 
 -- ---- whole numbers
 
-integer-own : (x : ℤ) → integerOrder x x ≡ Equal
+pub integer-own : (x : ℤ) → integerOrder x x ≡ Equal
 unfolding integerOrder
 integer-own (pos n) = rw (le-ltb n n (le-refl n)) refl
 integer-own (negsuc n) = rw (le-ltb n n (le-refl n)) refl
 
-integer-same : (a b : ℤ) → isEqual (integerOrder a b) ≡ true → a ≡ b
+pub integer-same : (a b : ℤ) → isEqual (integerOrder a b) ≡ true → a ≡ b
 unfolding integerOrder
 integer-same a b h = let n = neither (ltZ a b) (ltZ b a) h in meet a b (n .0) (n .1)
   where

@@ -2,16 +2,12 @@
 ghost use mathlib.Core.Path.{_≡_};
 ghost use Prim.Native.Nat.{_<_, _^_, _-_};
 ghost use lib.ListN.{length};
-ghost use Rattle.scalar.specs.Order.{scalarOrder, isEqual};
-ghost use Rattle.scalar_bytes.specs.Reading.{scalarAt};
 ghost use Rattle.records.specs.Sketches.{sketchAt};
 ghost use Rattle.sketch.specs.Frequent.{findItem, residualRows};
+use crate::values::has_value;
 use le::reads::u16_at;
 use le::reads::u64_at;
 use scalar::Scalar;
-use scalar::order::is_equal;
-use scalar::order::scalar_order;
-use scalar_bytes::reads::scalar_at;
 
 // What a sketch tells of a value: no item has it, or the item's counts.
 pub enum FoundItem {
@@ -30,14 +26,6 @@ pub fn item_count(s: &[u8], at: usize) -> u16
     ensures { λ r. ⌜ r ≡ length (sketchAt (now (s .entry)) at .items) ⌝ }
 {
     u16_at(s, at + 8)
-}
-
-// Whether the item at a place has this value.
-fn has_value(s: &[u8], item: usize, value: Scalar) -> bool
-    requires { ⌜ item < 2 ^ 60 ⌝ }
-    ensures { λ r. ⌜ r ≡ isEqual (scalarOrder (scalarAt (now (s .entry)) item) value) ⌝ }
-{
-    is_equal(scalar_order(scalar_at(s, item), value))
 }
 
 pub fn find_item(s: &[u8], at: usize, value: Scalar) -> FoundItem

@@ -25,6 +25,7 @@ use std::num::nearest_u64_to_f64;
 
 pub mod items;
 pub mod places;
+mod values;
 
 fn item_selectivity(population: u64, lower: u64, error: u64) -> f64
     ensures { λ r. ⌜ r ≡ itemSelectivity population lower error ⌝ }

@@ -2,6 +2,8 @@
 // the order of the bytes, or 0.
 ghost use mathlib.Core.Path.{_≡_};
 ghost use Prim.Native.Nat.{_<_, _^_, _*_, _+_};
+ghost use lib.Dec.{eqb};
+ghost use Rattle.le.specs.Fields.{fieldAt, u64At};
 ghost use Rattle.rules.specs.Rules.{firstRefusal};
 ghost use Rattle.sketch_rules.specs.Sketches.{sameValue, alikeRefusal, itemRefusal, sketchHeadRefusal, sketchRefusal};
 use le::reads::byte_at;
@@ -15,16 +17,27 @@ use rules::or_else;
 use scalar_bytes::reads::ScalarPlace;
 use scalar_bytes::reads::scalar_lawful;
 
-// Whether the 19 bytes at two places are the same.
-fn same_value(s: &[u8], a: usize, b: usize) -> bool
+// Whether the bytes 8 to 18 behind two places are the same.
+fn same_rest(s: &[u8], a: usize, b: usize) -> bool
     requires { ⌜ (a < 2 ^ 60) × (b < 2 ^ 60) ⌝ }
-    ensures { λ r. ⌜ r ≡ sameValue (now (s .entry)) a b ⌝ }
+    ensures { λ r. ⌜ r ≡ eqb (fieldAt 11 (now (s .entry)) (a + 8)) (fieldAt 11 (now (s .entry)) (b + 8)) ⌝ }
 {
-    let front = u64_at(s, a) == u64_at(s, b);
     let middle = u64_at(s, a + 8) == u64_at(s, b + 8);
     let last = u16_at(s, a + 16) == u16_at(s, b + 16);
     let end = byte_at(s, a + 18) == byte_at(s, b + 18);
-    both(front, both(middle, both(last, end)))
+    both(middle, both(last, end))
+}
+
+// Whether the 19 bytes at two places are the same. `front` is the number of the first eight at b.
+// Most values differ there.
+fn same_value(s: &[u8], a: usize, b: usize, front: u64) -> bool
+    requires { ⌜ (a < 2 ^ 60) × (b < 2 ^ 60) × (front ≡ u64At (now s) b) ⌝ }
+    ensures { λ r. ⌜ r ≡ sameValue (now (s .entry)) a b ⌝ }
+{
+    if u64_at(s, a) != front {
+        return false;
+    }
+    same_rest(s, a, b)
 }
 
 // 7 where the value of item j stands in one of the items before it.
@@ -33,9 +46,10 @@ fn twice_refusal(s: &[u8], first: usize, j: usize) -> u8
     ensures { λ r. ⌜ r ≡ firstRefusal (alikeRefusal (now (s .entry)) first j) 0 j ⌝ }
 {
     let at = first + 35 * j;
+    let front = u64_at(s, at);
     let mut i: usize = 0;
     while i < j {
-        if same_value(s, first + 35 * i, at) {
+        if same_value(s, first + 35 * i, at, front) {
             return 7;
         }
         i += 1;

@@ -4,6 +4,7 @@ use mathlib.Core.Bool.{Bool, true, false, not}
 use mathlib.Core.List.{List}
 use native.Mathlib.Omega.{arith}
 use native.Mathlib.Nat.{sub-zero}
+use borrow.Author.Needs.{needs}
 use Rattle.rules.specs.Rules.{ask, firstRefusal}
 use Rattle.rules.proofs.RuleLaws.{rest-next, rest-broken, rest-none}
 use Rattle.sketch_rules.specs.Sketches.{sameValue, alikeRefusal}
@@ -15,16 +16,19 @@ unfolding alikeRefusal
 told s first j i t e = ap (λ (b : Bool). ask (not b) 7) e
 
 abbrev Inv-loop : tie.InvT-loop
-Inv-loop s first j at i₀ i = (i ≤ j) × (firstRefusal (alikeRefusal s first j) i (j - i) ≡ firstRefusal (alikeRefusal s first j) 0 j)
+Inv-loop s first j at front i₀ i = (i ≤ j) × (firstRefusal (alikeRefusal s first j) i (j - i) ≡ firstRefusal (alikeRefusal s first j) 0 j)
 
 abbrev μ-loop : tie.MeasureT-loop
-μ-loop s first j at i₀ i = j - i
+μ-loop s first j at front i₀ i = j - i
 
 mul-at : tie.Need-mul-at Inv-loop μ-loop
 mul-at c = omega arith
 
 add-at : tie.Need-add-at Inv-loop μ-loop
 add-at c = omega arith
+
+u64-at-requires : tie.Need-u64-at-requires Inv-loop μ-loop
+u64-at-requires c κs = search needs
 
 loop-holds : tie.Need-loop-holds Inv-loop μ-loop
 loop-holds c = (omega arith, simp sub-zero)
@@ -36,7 +40,7 @@ add-same-value : tie.Need-add-same-value Inv-loop μ-loop
 add-same-value c = omega arith
 
 same-value-requires : tie.Need-same-value-requires Inv-loop μ-loop
-same-value-requires c κs = (omega arith, omega arith)
+same-value-requires c κs = (omega arith, omega arith, c .before .before .u64-at .ensures)
 
 returns : tie.Need-returns Inv-loop μ-loop
 returns c =
@@ -68,6 +72,7 @@ twice-refusal-spec =
     μ-loop
     mul-at
     add-at
+    u64-at-requires
     loop-holds
     mul-same-value
     add-same-value

@@ -1,0 +1,61 @@
+use mathlib.Core.Path.{refl, sym, _∙_}
+use mir.Syntax.{w32}
+use Rattle.signed.proofs.SignedLaws.{kept}
+use Rattle.scalar.specs.Types.{scalarType}
+use Rattle.scalar.specs.declared.Scalar.the-variants.{IntervalDayTime}
+use Rattle.sketch.proofs.ValueLaws.{other-tag, day-time-there}
+use borrow.Author.Needs.{needs}
+use Rattle.sketch.proofs.values.has_day_time.Statement.{statement}
+use Rattle.sketch.proofs.values.has_day_time.Tie as tie
+
+byte-at-requires : tie.Need-byte-at-requires
+byte-at-requires c κs = search needs
+
+returns : tie.Need-returns
+unfolding scalarType
+returns c = other-tag _ _ 8 (IntervalDayTime _ _) refl (λ e. c .if1 .taken (c .before .byte-at .ensures ∙ e))
+
+add-i32-at : tie.Need-add-i32-at
+add-i32-at c = search needs
+
+i32-at-requires : tie.Need-i32-at-requires
+i32-at-requires c κs = search needs
+
+equal-i32-requires : tie.Need-equal-i32-requires
+equal-i32-requires c κs = search needs
+
+add-i32-at-2 : tie.Need-add-i32-at-2
+add-i32-at-2 c = search needs
+
+i32-at-requires-2 : tie.Need-i32-at-requires-2
+i32-at-requires-2 c κs = search needs
+
+equal-i32-requires-2 : tie.Need-equal-i32-requires-2
+equal-i32-requires-2 c κs = search needs
+
+both-requires : tie.Need-both-requires
+both-requires c κs = search needs
+
+returns-2 : tie.Need-returns-2
+returns-2 c =
+    let m = c .before in
+    let d = m .before .before in
+    let t = d .before .before in
+    let a = t .before .before .before in
+    rw (c .both .ensures, m .equal-i322 .ensures, kept w32 (m .before .i32-at2 .result) (m .before .i32-at2 .ok), kept w32 (a .args .milliseconds) (a .fits .milliseconds .sfits), m .before .i32-at2 .ensures, d .equal-i32 .ensures, kept w32 (d .before .i32-at .result) (d .before .i32-at .ok), kept w32 (a .args .days) (a .fits .days .sfits), d .before .i32-at .ensures)
+    (day-time-there _ _ _ _ (sym (t .before .byte-at .ensures) ∙ t .if1 .left))
+
+pub has-day-time-spec : {M : Type 1} → statement M
+has-day-time-spec =
+    tie.close
+    (tie.spec
+    byte-at-requires
+    returns
+    add-i32-at
+    i32-at-requires
+    equal-i32-requires
+    add-i32-at-2
+    i32-at-requires-2
+    equal-i32-requires-2
+    both-requires
+    returns-2)

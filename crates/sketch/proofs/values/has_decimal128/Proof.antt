@@ -1,0 +1,68 @@
+use mathlib.Core.Path.{refl, sym, _∙_}
+use mir.Syntax.{w64}
+use Rattle.signed.proofs.SignedLaws.{kept}
+use Rattle.scalar.specs.Types.{scalarType}
+use Rattle.scalar.specs.declared.Scalar.the-variants.{Decimal128}
+use Rattle.sketch.proofs.ValueLaws.{other-tag, decimal128-there}
+use borrow.Author.Needs.{needs}
+use Rattle.sketch.proofs.values.has_decimal128.Statement.{statement}
+use Rattle.sketch.proofs.values.has_decimal128.Tie as tie
+
+byte-at-requires : tie.Need-byte-at-requires
+byte-at-requires c κs = search needs
+
+returns : tie.Need-returns
+unfolding scalarType
+returns c = other-tag _ _ 4 (Decimal128 _ _ _) refl (λ e. c .if1 .taken (c .before .byte-at .ensures ∙ e))
+
+add-byte-at : tie.Need-add-byte-at
+add-byte-at c = search needs
+
+byte-at-requires-2 : tie.Need-byte-at-requires-2
+byte-at-requires-2 c κs = search needs
+
+add-byte-at-2 : tie.Need-add-byte-at-2
+add-byte-at-2 c = search needs
+
+byte-at-requires-3 : tie.Need-byte-at-requires-3
+byte-at-requires-3 c κs = search needs
+
+add-i64-at : tie.Need-add-i64-at
+add-i64-at c = search needs
+
+i64-at-requires : tie.Need-i64-at-requires
+i64-at-requires c κs = search needs
+
+equal-i64-requires : tie.Need-equal-i64-requires
+equal-i64-requires c κs = search needs
+
+both-requires : tie.Need-both-requires
+both-requires c κs = search needs
+
+both-requires-2 : tie.Need-both-requires-2
+both-requires-2 c κs = search needs
+
+returns-2 : tie.Need-returns-2
+returns-2 c =
+    let e = c .before .before in
+    let t = e .before .before .before in
+    let a = t .before .before .before .before in
+    rw (c .both2 .ensures, c .before .both .ensures, e .equal-i64 .ensures, kept w64 (e .before .i64-at .result) (e .before .i64-at .ok), kept w64 (a .args .value) (a .fits .value .sfits), e .before .i64-at .ensures, e .before .before .byte-at3 .ensures, t .byte-at2 .ensures)
+    (decimal128-there _ _ _ _ _ (sym (t .before .before .byte-at .ensures) ∙ t .before .if1 .left))
+
+pub has-decimal128-spec : {M : Type 1} → statement M
+has-decimal128-spec =
+    tie.close
+    (tie.spec
+    byte-at-requires
+    returns
+    add-byte-at
+    byte-at-requires-2
+    add-byte-at-2
+    byte-at-requires-3
+    add-i64-at
+    i64-at-requires
+    equal-i64-requires
+    both-requires
+    both-requires-2
+    returns-2)

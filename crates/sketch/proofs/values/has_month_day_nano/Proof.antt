@@ -1,0 +1,78 @@
+use mathlib.Core.Path.{refl, sym, _∙_}
+use mir.Syntax.{w32, w64}
+use Rattle.signed.proofs.SignedLaws.{kept}
+use Rattle.scalar.specs.Types.{scalarType}
+use Rattle.scalar.specs.declared.Scalar.the-variants.{IntervalMonthDayNano}
+use Rattle.sketch.proofs.ValueLaws.{other-tag, month-day-nano-there}
+use borrow.Author.Needs.{needs}
+use Rattle.sketch.proofs.values.has_month_day_nano.Statement.{statement}
+use Rattle.sketch.proofs.values.has_month_day_nano.Tie as tie
+
+byte-at-requires : tie.Need-byte-at-requires
+byte-at-requires c κs = search needs
+
+returns : tie.Need-returns
+unfolding scalarType
+returns c = other-tag _ _ 7 (IntervalMonthDayNano _ _ _) refl (λ e. c .if1 .taken (c .before .byte-at .ensures ∙ e))
+
+add-i32-at : tie.Need-add-i32-at
+add-i32-at c = search needs
+
+i32-at-requires : tie.Need-i32-at-requires
+i32-at-requires c κs = search needs
+
+equal-i32-requires : tie.Need-equal-i32-requires
+equal-i32-requires c κs = search needs
+
+add-i32-at-2 : tie.Need-add-i32-at-2
+add-i32-at-2 c = search needs
+
+i32-at-requires-2 : tie.Need-i32-at-requires-2
+i32-at-requires-2 c κs = search needs
+
+equal-i32-requires-2 : tie.Need-equal-i32-requires-2
+equal-i32-requires-2 c κs = search needs
+
+add-i64-at : tie.Need-add-i64-at
+add-i64-at c = search needs
+
+i64-at-requires : tie.Need-i64-at-requires
+i64-at-requires c κs = search needs
+
+equal-i64-requires : tie.Need-equal-i64-requires
+equal-i64-requires c κs = search needs
+
+both-requires : tie.Need-both-requires
+both-requires c κs = search needs
+
+both-requires-2 : tie.Need-both-requires-2
+both-requires-2 c κs = search needs
+
+returns-2 : tie.Need-returns-2
+returns-2 c =
+    let n = c .before .before in
+    let d = n .before .before in
+    let m = d .before .before in
+    let t = m .before .before in
+    let a = t .before .before .before in
+    rw (c .both2 .ensures, c .before .both .ensures, n .equal-i64 .ensures, kept w64 (n .before .i64-at .result) (n .before .i64-at .ok), kept w64 (a .args .nanoseconds) (a .fits .nanoseconds .sfits), n .before .i64-at .ensures, d .equal-i322 .ensures, kept w32 (d .before .i32-at2 .result) (d .before .i32-at2 .ok), kept w32 (a .args .days) (a .fits .days .sfits), d .before .i32-at2 .ensures, m .equal-i32 .ensures, kept w32 (m .before .i32-at .result) (m .before .i32-at .ok), kept w32 (a .args .months) (a .fits .months .sfits), m .before .i32-at .ensures)
+    (month-day-nano-there _ _ _ _ _ (sym (t .before .byte-at .ensures) ∙ t .if1 .left))
+
+pub has-month-day-nano-spec : {M : Type 1} → statement M
+has-month-day-nano-spec =
+    tie.close
+    (tie.spec
+    byte-at-requires
+    returns
+    add-i32-at
+    i32-at-requires
+    equal-i32-requires
+    add-i32-at-2
+    i32-at-requires-2
+    equal-i32-requires-2
+    add-i64-at
+    i64-at-requires
+    equal-i64-requires
+    both-requires
+    both-requires-2
+    returns-2)
