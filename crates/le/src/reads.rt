@@ -57,7 +57,7 @@ pub fn before(at: usize, n: usize) -> usize
     if n <= at { at - n } else { 0 }
 }
 
-// Two bytes that are there, and four.
+// Two bytes that are there, four, and eight.
 fn pair_at(s: &[u8], at: usize) -> u64
     requires { ⌜ at + 2 ≤ length (now s) ⌝ }
     ensures { λ r. ⌜ (r ≡ u16At (now (s .entry)) at) × (r < 2 ^ 16) ⌝ }
@@ -65,11 +65,18 @@ fn pair_at(s: &[u8], at: usize) -> u64
     wide(s[at]) + wide(s[at + 1]) * 256
 }
 
-fn quad_at(s: &[u8], at: usize) -> u64
+pub fn quad_at(s: &[u8], at: usize) -> u64
     requires { ⌜ at + 4 ≤ length (now s) ⌝ }
     ensures { λ r. ⌜ (r ≡ u32At (now (s .entry)) at) × (r < 2 ^ 32) ⌝ }
 {
     pair_at(s, at) + pair_at(s, at + 2) * 0x1_0000
+}
+
+pub fn word_at(s: &[u8], at: usize) -> u64
+    requires { ⌜ at + 8 ≤ length (now s) ⌝ }
+    ensures { λ r. ⌜ r ≡ u64At (now (s .entry)) at ⌝ }
+{
+    quad_at(s, at) + quad_at(s, at + 4) * 0x1_0000_0000
 }
 
 pub fn u16_at(s: &[u8], at: usize) -> u16
@@ -94,7 +101,7 @@ pub fn u64_at(s: &[u8], at: usize) -> u64
     ensures { λ r. ⌜ r ≡ u64At (now (s .entry)) at ⌝ }
 {
     if 8 <= left(s, at) {
-        return quad_at(s, at) + quad_at(s, at + 4) * 0x1_0000_0000;
+        return word_at(s, at);
     }
     field_at(s, at, 8)
 }

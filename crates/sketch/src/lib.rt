@@ -25,6 +25,7 @@ use std::num::nearest_u64_to_f64;
 
 pub mod items;
 pub mod places;
+mod there;
 mod values;
 
 fn item_selectivity(population: u64, lower: u64, error: u64) -> f64

@@ -1,7 +1,8 @@
 // The rules of sketches. A function named for a refusal gives the number of the first rule broken, in
 // the order of the bytes, or 0.
 ghost use mathlib.Core.Path.{_≡_};
-ghost use Prim.Native.Nat.{_<_, _^_, _*_, _+_};
+ghost use Prim.Native.Nat.{_<_, _≤_, _^_, _*_, _+_};
+ghost use lib.ListN.{length};
 ghost use lib.Dec.{eqb};
 ghost use Rattle.le.specs.Fields.{fieldAt, u64At};
 ghost use Rattle.rules.specs.Rules.{firstRefusal};
@@ -9,6 +10,7 @@ ghost use Rattle.sketch_rules.specs.Sketches.{sameValue, alikeRefusal, i
 use le::reads::byte_at;
 use le::reads::u16_at;
 use le::reads::u64_at;
+use le::reads::word_at;
 use record_rules::fields::count_lawful;
 use record_rules::fields::whole;
 use rules::ask;
@@ -28,21 +30,21 @@ fn same_rest(s: &[u8], a: usize, b: usize) -> bool
     both(middle, both(last, end))
 }
 
-// Whether the 19 bytes at two places are the same. `front` is the number of the first eight at b.
-// Most values differ there.
+// Whether the 19 bytes at two places are the same. `front` is the number of the first eight at b;
+// most values differ there.
 fn same_value(s: &[u8], a: usize, b: usize, front: u64) -> bool
-    requires { ⌜ (a < 2 ^ 60) × (b < 2 ^ 60) × (front ≡ u64At (now s) b) ⌝ }
+    requires { ⌜ (a < 2 ^ 60) × (b < 2 ^ 60) × (a + 8 ≤ length (now s)) × (front ≡ u64At (now s) b) ⌝ }
     ensures { λ r. ⌜ r ≡ sameValue (now (s .entry)) a b ⌝ }
 {
-    if u64_at(s, a) != front {
+    if word_at(s, a) != front {
         return false;
     }
     same_rest(s, a, b)
 }
 
-// 7 where the value of item j stands in one of the items before it.
+// 7 where the value of item j stands in one of the items before it, which are all there.
 fn twice_refusal(s: &[u8], first: usize, j: usize) -> u8
-    requires { ⌜ (first < 2 ^ 40) × (j < 2 ^ 16) ⌝ }
+    requires { ⌜ (first < 2 ^ 40) × (j < 2 ^ 16) × (first + 35 * j ≤ length (now s)) ⌝ }
     ensures { λ r. ⌜ r ≡ firstRefusal (alikeRefusal (now (s .entry)) first j) 0 j ⌝ }
 {
     let at = first + 35 * j;
@@ -63,11 +65,14 @@ fn item_refusal(s: &[u8], first: usize, j: usize) -> u8
 {
     let at = first + 35 * j;
     let there = whole(35, s, at);
+    if there != 0 {
+        return there;
+    }
     let value = ask(scalar_lawful(ScalarPlace::Sketch, s, at), 5);
     let twice = twice_refusal(s, first, j);
     let lower = ask(count_lawful(u64_at(s, at + 19)), 4);
     let error = ask(count_lawful(u64_at(s, at + 27)), 4);
-    or_else(there, or_else(value, or_else(twice, or_else(lower, error))))
+    or_else(value, or_else(twice, or_else(lower, error)))
 }
 
 fn items_refusal(s: &[u8], first: usize, n: usize) -> u8

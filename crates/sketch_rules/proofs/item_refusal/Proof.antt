@@ -1,6 +1,10 @@
-use mathlib.Core.Path.{ap, _∙_}
+use Prim.Native.Nat.{_+_, _*_}
+use mathlib.Core.Path.{sym, ap, _∙_}
 use mathlib.Core.Bool.{Bool}
 use Rattle.rules.specs.Rules.{ask, orElse}
+use Rattle.rules.proofs.RuleLaws.{else-broken, else-kept}
+use native.Mathlib.Omega.{arith}
+use Rattle.record_rules.proofs.RoomLaws.{whole-room}
 use Rattle.record_rules.specs.Fields.{countLawful}
 use Rattle.sketch_rules.specs.Sketches.{itemRefusal}
 use borrow.Author.Needs.{needs}
@@ -16,6 +20,12 @@ add-at c = search needs
 whole-requires : tie.Need-whole-requires
 whole-requires c κs = search needs
 
+returns : tie.Need-returns
+unfolding itemRefusal
+returns c =
+    let e = c .before .whole .ensures in
+    e ∙ sym (else-broken _ _ (λ h. c .if1 .taken (e ∙ h)))
+
 scalar-lawful-requires : tie.Need-scalar-lawful-requires
 scalar-lawful-requires c κs = search needs
 
@@ -23,7 +33,11 @@ ask-requires : tie.Need-ask-requires
 ask-requires c κs = search needs
 
 twice-refusal-requires : tie.Need-twice-refusal-requires
-twice-refusal-requires c κs = search needs
+twice-refusal-requires c κs =
+    let w = c .before .before .before in
+    let a = w .before .before .args in
+    let room = whole-room 35 (a .s .now) (a .first + 35 * a .j) (omega arith) (sym (w .whole .ensures) ∙ c .before .before .if1 .left) in
+    (omega arith, omega arith, omega arith)
 
 add-u64-at : tie.Need-add-u64-at
 add-u64-at c = search needs
@@ -58,22 +72,20 @@ or-else-requires-2 c κs = search needs
 or-else-requires-3 : tie.Need-or-else-requires-3
 or-else-requires-3 c κs = search needs
 
-or-else-requires-4 : tie.Need-or-else-requires-4
-or-else-requires-4 c κs = search needs
-
-returns : tie.Need-returns
+returns-2 : tie.Need-returns-2
 unfolding itemRefusal
-returns c =
-    let d = c .before .before .before .before in
+returns-2 c =
+    let d = c .before .before .before in
     let e = d .before .before .before in
     let f = e .before .before .before in
+    let w = f .before .before .before .before in
     let error = d .ask3 .ensures ∙ ap (λ (b : Bool). ask b 4) (d .before .count-lawful2 .ensures ∙ ap countLawful (d .before .before .u64-at2 .ensures)) in
     let lower = e .ask2 .ensures ∙ ap (λ (b : Bool). ask b 4) (e .before .count-lawful .ensures ∙ ap countLawful (e .before .before .u64-at .ensures)) in
     let value = f .before .ask .ensures ∙ ap (λ (b : Bool). ask b 5) (f .before .before .scalar-lawful .ensures) in
-    let numbers = c .before .before .before .or-else .ensures ∙ λ i. orElse (lower i) (error i) in
-    let last = c .before .before .or-else2 .ensures ∙ λ i. orElse (f .twice-refusal .ensures i) (numbers i) in
-    let fields = c .before .or-else3 .ensures ∙ λ i. orElse (value i) (last i) in
-    c .or-else4 .ensures ∙ λ i. orElse (f .before .before .before .whole .ensures i) (fields i)
+    let numbers = c .before .before .or-else .ensures ∙ λ i. orElse (lower i) (error i) in
+    let last = c .before .or-else2 .ensures ∙ λ i. orElse (f .twice-refusal .ensures i) (numbers i) in
+    let fields = c .or-else3 .ensures ∙ λ i. orElse (value i) (last i) in
+    fields ∙ sym (else-kept _ _ (sym (w .whole .ensures) ∙ f .before .before .before .if1 .left))
 
 pub item-refusal-spec : {M : Type 1} → statement M
 item-refusal-spec =
@@ -82,6 +94,7 @@ item-refusal-spec =
     mul-at
     add-at
     whole-requires
+    returns
     scalar-lawful-requires
     ask-requires
     twice-refusal-requires
@@ -96,5 +109,4 @@ item-refusal-spec =
     or-else-requires
     or-else-requires-2
     or-else-requires-3
-    or-else-requires-4
-    returns)
+    returns-2)

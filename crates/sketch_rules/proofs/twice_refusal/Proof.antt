@@ -40,7 +40,7 @@ add-same-value : tie.Need-add-same-value Inv-loop μ-loop
 add-same-value c = omega arith
 
 same-value-requires : tie.Need-same-value-requires Inv-loop μ-loop
-same-value-requires c κs = (omega arith, omega arith, c .before .before .u64-at .ensures)
+same-value-requires c κs = (omega arith, omega arith, omega arith, c .before .before .u64-at .ensures)
 
 returns : tie.Need-returns Inv-loop μ-loop
 returns c =

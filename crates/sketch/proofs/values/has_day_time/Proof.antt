@@ -8,27 +8,27 @@ use borrow.Author.Needs.{needs}
 use Rattle.sketch.proofs.values.has_day_time.Statement.{statement}
 use Rattle.sketch.proofs.values.has_day_time.Tie as tie
 
-byte-at-requires : tie.Need-byte-at-requires
-byte-at-requires c κs = search needs
+byte-there-requires : tie.Need-byte-there-requires
+byte-there-requires c κs = search needs
 
 returns : tie.Need-returns
 unfolding scalarType
-returns c = other-tag _ _ 8 (IntervalDayTime _ _) refl (λ e. c .if1 .taken (c .before .byte-at .ensures ∙ e))
+returns c = other-tag _ _ 8 (IntervalDayTime _ _) refl (λ e. c .if1 .taken (c .before .byte-there .ensures ∙ e))
 
-add-i32-at : tie.Need-add-i32-at
-add-i32-at c = search needs
+add-i32-there : tie.Need-add-i32-there
+add-i32-there c = search needs
 
-i32-at-requires : tie.Need-i32-at-requires
-i32-at-requires c κs = search needs
+i32-there-requires : tie.Need-i32-there-requires
+i32-there-requires c κs = search needs
 
 equal-i32-requires : tie.Need-equal-i32-requires
 equal-i32-requires c κs = search needs
 
-add-i32-at-2 : tie.Need-add-i32-at-2
-add-i32-at-2 c = search needs
+add-i32-there-2 : tie.Need-add-i32-there-2
+add-i32-there-2 c = search needs
 
-i32-at-requires-2 : tie.Need-i32-at-requires-2
-i32-at-requires-2 c κs = search needs
+i32-there-requires-2 : tie.Need-i32-there-requires-2
+i32-there-requires-2 c κs = search needs
 
 equal-i32-requires-2 : tie.Need-equal-i32-requires-2
 equal-i32-requires-2 c κs = search needs
@@ -42,20 +42,20 @@ returns-2 c =
     let d = m .before .before in
     let t = d .before .before in
     let a = t .before .before .before in
-    rw (c .both .ensures, m .equal-i322 .ensures, kept w32 (m .before .i32-at2 .result) (m .before .i32-at2 .ok), kept w32 (a .args .milliseconds) (a .fits .milliseconds .sfits), m .before .i32-at2 .ensures, d .equal-i32 .ensures, kept w32 (d .before .i32-at .result) (d .before .i32-at .ok), kept w32 (a .args .days) (a .fits .days .sfits), d .before .i32-at .ensures)
-    (day-time-there _ _ _ _ (sym (t .before .byte-at .ensures) ∙ t .if1 .left))
+    rw (c .both .ensures, m .equal-i322 .ensures, kept w32 (m .before .i32-there2 .result) (m .before .i32-there2 .ok), kept w32 (a .args .milliseconds) (a .fits .milliseconds .sfits), m .before .i32-there2 .ensures, d .equal-i32 .ensures, kept w32 (d .before .i32-there .result) (d .before .i32-there .ok), kept w32 (a .args .days) (a .fits .days .sfits), d .before .i32-there .ensures)
+    (day-time-there _ _ _ _ (sym (t .before .byte-there .ensures) ∙ t .if1 .left))
 
 pub has-day-time-spec : {M : Type 1} → statement M
 has-day-time-spec =
     tie.close
     (tie.spec
-    byte-at-requires
+    byte-there-requires
     returns
-    add-i32-at
-    i32-at-requires
+    add-i32-there
+    i32-there-requires
     equal-i32-requires
-    add-i32-at-2
-    i32-at-requires-2
+    add-i32-there-2
+    i32-there-requires-2
     equal-i32-requires-2
     both-requires
     returns-2)

@@ -6,27 +6,27 @@ use borrow.Author.Needs.{needs}
 use Rattle.sketch.proofs.values.has_float64.Statement.{statement}
 use Rattle.sketch.proofs.values.has_float64.Tie as tie
 
-byte-at-requires : tie.Need-byte-at-requires
-byte-at-requires c κs = search needs
+byte-there-requires : tie.Need-byte-there-requires
+byte-there-requires c κs = search needs
 
 returns : tie.Need-returns
 unfolding scalarType
-returns c = other-tag _ _ 3 (Float64 _) refl (λ e. c .if1 .taken (c .before .byte-at .ensures ∙ e))
+returns c = other-tag _ _ 3 (Float64 _) refl (λ e. c .if1 .taken (c .before .byte-there .ensures ∙ e))
 
-add-f64-at : tie.Need-add-f64-at
-add-f64-at c = search needs
+add-f64-there : tie.Need-add-f64-there
+add-f64-there c = search needs
 
-f64-at-requires : tie.Need-f64-at-requires
-f64-at-requires c κs = search needs
+f64-there-requires : tie.Need-f64-there-requires
+f64-there-requires c κs = search needs
 
 equal-f64-requires : tie.Need-equal-f64-requires
 equal-f64-requires c κs = search needs
 
 returns-2 : tie.Need-returns-2
 returns-2 c =
-    rw (c .equal-f64 .ensures, c .before .f64-at .ensures) (float64-there _ _ _ (sym (c .before .before .before .byte-at .ensures) ∙ c .before .before .if1 .left))
+    rw (c .equal-f64 .ensures, c .before .f64-there .ensures) (float64-there _ _ _ (sym (c .before .before .before .byte-there .ensures) ∙ c .before .before .if1 .left))
 
 pub has-float64-spec : {M : Type 1} → statement M
 has-float64-spec =
     tie.close
-    (tie.spec byte-at-requires returns add-f64-at f64-at-requires equal-f64-requires returns-2)
+    (tie.spec byte-there-requires returns add-f64-there f64-there-requires equal-f64-requires returns-2)
