@@ -1,12 +1,14 @@
 // The items of a sketch, where they stand: at + 10 and on, 35 bytes each.
 ghost use mathlib.Core.Path.{_≡_};
-ghost use Prim.Native.Nat.{_<_, _^_, _-_};
+ghost use Prim.Native.Nat.{_+_, _-_, _*_, _<_, _≤_, _^_};
 ghost use lib.ListN.{length};
 ghost use Rattle.records.specs.Sketches.{sketchAt};
 ghost use Rattle.sketch.specs.Frequent.{findItem, residualRows};
 use crate::values::has_value;
+use crate::values::has_value_there;
 use le::reads::u16_at;
 use le::reads::u64_at;
+use le::reads::word_at;
 use scalar::Scalar;
 
 // What a sketch tells of a value: no item has it, or the item's counts.
@@ -28,11 +30,30 @@ pub fn item_count(s: &[u8], at: usize) -> u16
     u16_at(s, at + 8)
 }
 
-pub fn find_item(s: &[u8], at: usize, value: Scalar) -> FoundItem
-    requires { ⌜ at < 2 ^ 40 ⌝ }
+// The lookup among n items that are all there.
+fn find_there(s: &[u8], at: usize, n: usize, value: Scalar) -> FoundItem
+    requires { ⌜ (at < 2 ^ 40) × (n ≡ length (sketchAt (now s) at .items)) × (n < 2 ^ 16) × (at + 10 + 35 * n ≤ length (now s)) ⌝ }
     ensures { λ r. ⌜ r ≡ findItem value (sketchAt (now (s .entry)) at .items) ⌝ }
 {
-    let n = item_count(s, at) as usize;
+    let mut i: usize = 0;
+    while i < n {
+        let item = at + 10 + 35 * i;
+        if has_value_there(s, item, value) {
+            return FoundItem::Present {
+                lower: word_at(s, item + 19),
+                error: word_at(s, item + 27),
+            };
+        }
+        i += 1;
+    }
+    FoundItem::Absent
+}
+
+// As `find_there`, where the end cuts the items.
+fn find_cut(s: &[u8], at: usize, n: usize, value: Scalar) -> FoundItem
+    requires { ⌜ (at < 2 ^ 40) × (n ≡ length (sketchAt (now s) at .items)) × (n < 2 ^ 16) ⌝ }
+    ensures { λ r. ⌜ r ≡ findItem value (sketchAt (now (s .entry)) at .items) ⌝ }
+{
     let mut i: usize = 0;
     while i < n {
         let item = at + 10 + 35 * i;
@@ -45,6 +66,17 @@ pub fn find_item(s: &[u8], at: usize, value: Scalar) -> FoundItem
         i += 1;
     }
     FoundItem::Absent
+}
+
+pub fn find_item(s: &[u8], at: usize, value: Scalar) -> FoundItem
+    requires { ⌜ at < 2 ^ 40 ⌝ }
+    ensures { λ r. ⌜ r ≡ findItem value (sketchAt (now (s .entry)) at .items) ⌝ }
+{
+    let n = item_count(s, at) as usize;
+    if at + 10 + 35 * n <= s.len() {
+        return find_there(s, at, n, value);
+    }
+    find_cut(s, at, n, value)
 }
 
 // a - b, or 0 where b is the larger.

@@ -131,7 +131,7 @@ fn has_day_time(s: &[u8], at: usize, days: i32, milliseconds: i32) -> bool
 }
 
 // Null has no order, so it is equal to nothing.
-fn has_value_there(s: &[u8], at: usize, value: Scalar) -> bool
+pub fn has_value_there(s: &[u8], at: usize, value: Scalar) -> bool
     requires { ⌜ (at < 2 ^ 60) × (at + 19 ≤ length (now s)) ⌝ }
     ensures { λ r. ⌜ r ≡ isEqual (scalarOrder (scalarAt (now (s .entry)) at) value) ⌝ }
 {
@@ -156,13 +156,10 @@ fn has_value_there(s: &[u8], at: usize, value: Scalar) -> bool
     }
 }
 
-// The 19 bytes may be cut by the end.
+// As `has_value_there`, where the end may cut the 19 bytes.
 pub fn has_value(s: &[u8], at: usize, value: Scalar) -> bool
     requires { ⌜ at < 2 ^ 60 ⌝ }
     ensures { λ r. ⌜ r ≡ isEqual (scalarOrder (scalarAt (now (s .entry)) at) value) ⌝ }
 {
-    if at + 19 <= s.len() {
-        return has_value_there(s, at, value);
-    }
     is_equal(scalar_order(scalar_at(s, at), value))
 }

@@ -3,15 +3,6 @@ use borrow.Author.Needs.{needs}
 use Rattle.sketch.proofs.values.has_value.Statement.{statement}
 use Rattle.sketch.proofs.values.has_value.Tie as tie
 
-add-if1 : tie.Need-add-if1
-add-if1 c = search needs
-
-has-value-there-requires : tie.Need-has-value-there-requires
-has-value-there-requires c κs = search needs
-
-returns : tie.Need-returns
-returns c = search needs
-
 scalar-at-requires : tie.Need-scalar-at-requires
 scalar-at-requires c κs = search needs
 
@@ -21,17 +12,9 @@ scalar-order-requires c κs = search needs
 is-equal-requires : tie.Need-is-equal-requires
 is-equal-requires c κs = search needs
 
-returns-2 : tie.Need-returns-2
-returns-2 c = rw (c .is-equal .ensures, c .before .scalar-order .ensures, c .before .before .scalar-at .ensures) refl
+returns : tie.Need-returns
+returns c = rw (c .is-equal .ensures, c .before .scalar-order .ensures, c .before .before .scalar-at .ensures) refl
 
 pub has-value-spec : {M : Type 1} → statement M
 has-value-spec =
-    tie.close
-    (tie.spec
-    add-if1
-    has-value-there-requires
-    returns
-    scalar-at-requires
-    scalar-order-requires
-    is-equal-requires
-    returns-2)
+    tie.close (tie.spec scalar-at-requires scalar-order-requires is-equal-requires returns)

@@ -1,27 +1,20 @@
 use Prim.Native.Nat.{_-_, _≤_}
 use mathlib.Core.Path.{_≡_, sym, ap, _∙_}
 use native.Mathlib.Omega.{arith}
-use borrow.Author.Needs.{needs}
 use Rattle.records.specs.Sketches.{sketchAt}
 use Rattle.sketch.specs.Frequent.{findItem}
 use Rattle.sketch.proofs.ItemLaws.{itemsFrom, items-all, find-next, find-here, find-none}
-use Rattle.sketch.proofs.items.find_item.Statement.{statement}
-use Rattle.sketch.proofs.items.find_item.Tie as tie
+use Rattle.sketch.proofs.items.find_cut.Statement.{statement}
+use Rattle.sketch.proofs.items.find_cut.Tie as tie
 
 abbrev Inv-loop : tie.InvT-loop
-Inv-loop s at value n i₀ i = (i ≤ n) × (findItem value (itemsFrom s at i n) ≡ findItem value (sketchAt s at .items))
+Inv-loop s at n value i₀ i = (i ≤ n) × (findItem value (itemsFrom s at i n) ≡ findItem value (sketchAt s at .items))
 
 abbrev μ-loop : tie.MeasureT-loop
-μ-loop s at value n i₀ i = n - i
-
-item-count-requires : tie.Need-item-count-requires Inv-loop μ-loop
-item-count-requires c κs = omega arith
-
-cast-n : tie.Need-cast-n Inv-loop μ-loop
-cast-n c = search needs
+μ-loop s at n value i₀ i = n - i
 
 loop-holds : tie.Need-loop-holds Inv-loop μ-loop
-loop-holds c = (omega arith, ap (findItem _) (items-all _ _ _ (c .item-count .ensures)))
+loop-holds c = (omega arith, ap (findItem _) (items-all _ _ _ (c .before .pre .1)))
 
 add-item : tie.Need-add-item Inv-loop μ-loop
 add-item c = omega arith
@@ -67,14 +60,12 @@ loop-again c = (
 returns-2 : tie.Need-returns-2 Inv-loop μ-loop
 returns-2 c = find-none _ _ _ _ _ _ (c .before .loop .inv .1) (c .loop-test .left)
 
-pub find-item-spec : {M : Type 1} → statement M
-find-item-spec =
+pub find-cut-spec : {M : Type 1} → statement M
+find-cut-spec =
     tie.close
     (tie.spec
     Inv-loop
     μ-loop
-    item-count-requires
-    cast-n
     loop-holds
     add-item
     mul-item
