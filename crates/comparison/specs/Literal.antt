@@ -23,6 +23,10 @@ use Rattle.range.specs.Range.{rangeSelectivity}
 abbrev pub equalitySelectivity : OptionF64 → Float → Float → Float
 equalitySelectivity frequent nonNull distinct = cond (frequent .present) (frequent .number) (div binary64 nonNull (f64Max distinct f64One))
 
+-- of a profile, against a literal
+abbrev pub equalityPart : Sheet → ColumnProfile → Scalar → Float → Float
+equalityPart sheet profile literal nonNull = equalitySelectivity (frequentValueSelectivity (sheet .sketches) profile literal) nonNull (profile .distinct .value)
+
 abbrev pub rangePart : Sheet → ColumnProfile → Scalar → BinaryOp → Float → Estimate
 rangePart sheet profile literal op nonNull =
     unitEstimate (mul binary64 (rangeSelectivity profile literal op (sheet .settings .«range_fallback_selectivity») .value) nonNull)
@@ -49,8 +53,7 @@ unfoldable pub profileSelectivity : Sheet → ColumnProfile → Float → Scalar
 unfolding exact nonNullFraction frequentValueSelectivity comparisonSelectivity
 profileSelectivity sheet profile rows literal op =
     let nonNull = nonNullFraction (profile .frequency .value) rows in
-    let equality = equalitySelectivity (frequentValueSelectivity (sheet .sketches) profile literal) nonNull (profile .distinct .value) in
-    unlessNull (isNull literal) (comparisonSelectivity sheet profile literal op nonNull equality)
+    unlessNull (isNull literal) (comparisonSelectivity sheet profile literal op nonNull (equalityPart sheet profile literal nonNull))
 
 abbrev pub foundSelectivity : Sheet → ProfileAndRows → Scalar → BinaryOp → Estimate
 foundSelectivity sheet Absent literal op = defaultEstimate sheet

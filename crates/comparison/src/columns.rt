@@ -1,16 +1,18 @@
 // binary_selectivity of the source's analysis.rs for two columns that are equated.
 ghost use mathlib.Core.Path.{_≡_};
+ghost use Prim.Native.Nat.{_<_, _^_};
+ghost use Rattle.records.specs.Columns.{columnProfileAt};
 ghost use Rattle.sheet.specs.Sheet.{sheetOf};
-ghost use Rattle.comparison.specs.Columns.{selfSelectivity, pairSelectivity, profilesSelectivity, foundColumns, columnsSelectivity};
+ghost use Rattle.comparison.specs.Columns.{selfSelectivity, pairSelectivity, profilesSelectivity, columnsSelectivity};
 use estimate::Estimate;
 use float::order::clamp_unit;
 use float::order::f64_max;
-use lookup::profiles::ProfileAndRows;
-use lookup::profiles::profile_and_rows;
+use lookup::profiles::distinct_at;
+use lookup::profiles::frequency_at;
+use lookup::profiles::profile_place;
 use range::selectivity::default_estimate;
 use range::selectivity::non_null_fraction;
 use range::selectivity::unit_estimate;
-use records::columns::ColumnProfile;
 use sheet::Sections;
 
 fn self_selectivity(null_safe: bool, non_null: f64) -> Estimate
@@ -40,53 +42,31 @@ fn pair_selectivity(
     unit_estimate(clamp_unit(equal_non_null + 0.0))
 }
 
+// By the places of the two profiles.
 fn profiles_selectivity(
+    s: &[u8],
     null_safe: bool,
     same: bool,
-    left: ColumnProfile,
+    left: usize,
     left_rows: f64,
-    right: ColumnProfile,
+    right: usize,
     right_rows: f64,
 ) -> Estimate
-    ensures { λ r. ⌜ r ≡ profilesSelectivity «null_safe» same left «left_rows» right «right_rows» ⌝ }
+    requires { ⌜ (left < 2 ^ 40) × (right < 2 ^ 40) ⌝ }
+    ensures { λ r. ⌜ r ≡ profilesSelectivity «null_safe» same (columnProfileAt (now (s .entry)) left) «left_rows» (columnProfileAt (now (s .entry)) right) «right_rows» ⌝ }
 {
-    let left_non_null = non_null_fraction(left.frequency.value, left_rows);
+    let left_non_null = non_null_fraction(frequency_at(s, left), left_rows);
     if same {
         return self_selectivity(null_safe, left_non_null);
     }
-    let right_non_null = non_null_fraction(right.frequency.value, right_rows);
+    let right_non_null = non_null_fraction(frequency_at(s, right), right_rows);
     pair_selectivity(
         null_safe,
         left_non_null,
         right_non_null,
-        left.distinct.value,
-        right.distinct.value,
+        distinct_at(s, left),
+        distinct_at(s, right),
     )
-}
-
-fn found_columns(
-    s: &[u8],
-    q: Sections,
-    null_safe: bool,
-    same: bool,
-    first: ProfileAndRows,
-    second: ProfileAndRows,
-) -> Estimate
-    ensures { λ r. ⌜ r ≡ foundColumns (sheetOf (now (s .entry)) q) «null_safe» same first second ⌝ }
-{
-    match first {
-        ProfileAndRows::Absent => default_estimate(s, q),
-        ProfileAndRows::Present {
-            profile: left,
-            rows: left_rows,
-        } => match second {
-            ProfileAndRows::Absent => default_estimate(s, q),
-            ProfileAndRows::Present {
-                profile: right,
-                rows: right_rows,
-            } => profiles_selectivity(null_safe, same, left, left_rows, right, right_rows),
-        },
-    }
 }
 
 pub fn columns_selectivity(
@@ -98,7 +78,22 @@ pub fn columns_selectivity(
 ) -> Estimate
     ensures { λ r. ⌜ r ≡ columnsSelectivity (sheetOf (now (s .entry)) q) «null_safe» left right ⌝ }
 {
-    let first = profile_and_rows(s, q, left);
-    let second = profile_and_rows(s, q, right);
-    found_columns(s, q, null_safe, left == right, first, second)
+    let first = profile_place(s, q, left);
+    if first.at == 0 {
+        return default_estimate(s, q);
+    }
+    let second = profile_place(s, q, right);
+    if second.at == 0 {
+        return default_estimate(s, q);
+    }
+    let same = left == right;
+    profiles_selectivity(
+        s,
+        null_safe,
+        same,
+        first.at,
+        first.rows,
+        second.at,
+        second.rows,
+    )
 }

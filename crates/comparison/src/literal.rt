@@ -1,21 +1,25 @@
 // binary_selectivity of the source's analysis.rs for a column and a literal.
 ghost use mathlib.Core.Path.{_≡_};
+ghost use Prim.Native.Nat.{_<_, _^_};
+ghost use Rattle.scalar.specs.Types.{isNull};
+ghost use Rattle.scalar_bytes.specs.Reading.{scalarAt};
+ghost use Rattle.records.specs.Columns.{columnProfileAt};
 ghost use Rattle.sheet.specs.Sheet.{sheetOf};
-ghost use Rattle.comparison.specs.Literal.{equalitySelectivity, rangePart, comparisonSelectivity, unlessNull, profileSelectivity, literalSelectivity};
+ghost use Rattle.comparison.specs.Literal.{equalitySelectivity, equalityPart, rangePart, comparisonSelectivity, profileSelectivity, literalSelectivity};
 use estimate::Estimate;
 use float::option::OptionF64;
 use float::order::f64_max;
-use lookup::profiles::ProfileAndRows;
-use lookup::profiles::profile_and_rows;
+use le::reads::byte_at;
+use lookup::profiles::distinct_at;
+use lookup::profiles::frequency_at;
+use lookup::profiles::profile_place;
 use range::range_selectivity;
 use range::selectivity::default_estimate;
 use range::selectivity::non_null_fraction;
-use range::selectivity::settings_of;
+use range::selectivity::range_fallback_selectivity;
 use range::selectivity::unit_estimate;
-use records::columns::ColumnProfile;
 use records::expressions::BinaryOp;
-use scalar::Scalar;
-use scalar::is_null;
+use scalar_bytes::reads::scalar_at;
 use sheet::Sections;
 use sketch::frequent_value_selectivity;
 
@@ -28,36 +32,69 @@ fn equality_selectivity(frequent: OptionF64, non_null: f64, distinct: f64) -> f6
     non_null / f64_max(distinct, 1.0)
 }
 
+// Whether the scalar at a place is Null.
+fn is_null_at(s: &[u8], at: usize) -> bool
+    ensures { λ r. ⌜ r ≡ isNull (scalarAt (now (s .entry)) at) ⌝ }
+{
+    let tag = byte_at(s, at);
+    match tag {
+        1 => false,
+        2 => false,
+        3 => false,
+        4 => false,
+        5 => false,
+        6 => false,
+        8 => false,
+        9 => false,
+        _ => true,
+    }
+}
+
+// Of the profile at a place that a column equals the scalar at a place.
+fn equality_part(s: &[u8], q: Sections, profile: usize, literal: usize, non_null: f64) -> f64
+    requires { ⌜ (profile < 2 ^ 40) × (literal < 2 ^ 40) ⌝ }
+    ensures { λ r. ⌜ r ≡ equalityPart (sheetOf (now (s .entry)) q) (columnProfileAt (now (s .entry)) profile) (scalarAt (now (s .entry)) literal) «non_null» ⌝ }
+{
+    let value = scalar_at(s, literal);
+    let frequent = frequent_value_selectivity(s, q.sketches, profile, value);
+    equality_selectivity(frequent, non_null, distinct_at(s, profile))
+}
+
 fn range_part(
     s: &[u8],
     q: Sections,
-    profile: ColumnProfile,
-    literal: Scalar,
+    profile: usize,
+    literal: usize,
     op: BinaryOp,
     non_null: f64,
 ) -> Estimate
-    ensures { λ r. ⌜ r ≡ rangePart (sheetOf (now (s .entry)) q) profile literal op «non_null» ⌝ }
+    requires { ⌜ (profile < 2 ^ 40) × (literal < 2 ^ 40) ⌝ }
+    ensures { λ r. ⌜ r ≡ rangePart (sheetOf (now (s .entry)) q) (columnProfileAt (now (s .entry)) profile) (scalarAt (now (s .entry)) literal) op «non_null» ⌝ }
 {
-    let fallback = settings_of(s, q).range_fallback_selectivity;
-    let conditional = range_selectivity(profile, literal, op, fallback);
+    let fallback = range_fallback_selectivity(s, q);
+    let conditional = range_selectivity(s, profile, literal, op, fallback);
     unit_estimate(conditional.value * non_null)
 }
 
+// The sketch is asked only by the operators that need it.
 fn comparison_selectivity(
     s: &[u8],
     q: Sections,
-    profile: ColumnProfile,
-    literal: Scalar,
+    profile: usize,
+    literal: usize,
     op: BinaryOp,
     non_null: f64,
-    equality: f64,
 ) -> Estimate
-    ensures { λ r. ⌜ r ≡ comparisonSelectivity (sheetOf (now (s .entry)) q) profile literal op «non_null» equality ⌝ }
+    requires { ⌜ (profile < 2 ^ 40) × (literal < 2 ^ 40) ⌝ }
+    ensures { λ r. ⌜ r ≡ comparisonSelectivity (sheetOf (now (s .entry)) q) (columnProfileAt (now (s .entry)) profile) (scalarAt (now (s .entry)) literal) op «non_null» (equalityPart (sheetOf (now (s .entry)) q) (columnProfileAt (now (s .entry)) profile) (scalarAt (now (s .entry)) literal) «non_null») ⌝ }
 {
     match op {
-        BinaryOp::Eq => unit_estimate(equality),
+        BinaryOp::Eq => unit_estimate(equality_part(s, q, profile, literal, non_null)),
         BinaryOp::IsNotDistinctFrom => default_estimate(s, q),
-        BinaryOp::NotEq => unit_estimate(f64_max(non_null - equality, 0.0)),
+        BinaryOp::NotEq => {
+            let equality = equality_part(s, q, profile, literal, non_null);
+            unit_estimate(f64_max(non_null - equality, 0.0))
+        }
         BinaryOp::Lt => range_part(s, q, profile, literal, BinaryOp::Lt, non_null),
         BinaryOp::LtEq => range_part(s, q, profile, literal, BinaryOp::LtEq, non_null),
         BinaryOp::Gt => range_part(s, q, profile, literal, BinaryOp::Gt, non_null),
@@ -70,47 +107,38 @@ fn comparison_selectivity(
 }
 
 // Null is matched by no operator.
-fn unless_null(null: bool, compared: Estimate) -> Estimate
-    ensures { λ r. ⌜ r ≡ unlessNull null compared ⌝ }
-{
-    if null {
-        return Estimate::exact(0.0);
-    }
-    compared
-}
-
 fn profile_selectivity(
     s: &[u8],
     q: Sections,
-    profile: ColumnProfile,
+    profile: usize,
     rows: f64,
-    literal: Scalar,
+    literal: usize,
     op: BinaryOp,
 ) -> Estimate
-    ensures { λ r. ⌜ r ≡ profileSelectivity (sheetOf (now (s .entry)) q) profile rows literal op ⌝ }
+    requires { ⌜ (profile < 2 ^ 40) × (literal < 2 ^ 40) ⌝ }
+    ensures { λ r. ⌜ r ≡ profileSelectivity (sheetOf (now (s .entry)) q) (columnProfileAt (now (s .entry)) profile) rows (scalarAt (now (s .entry)) literal) op ⌝ }
 {
-    let null = is_null(literal);
-    let non_null = non_null_fraction(profile.frequency.value, rows);
-    let frequent = frequent_value_selectivity(s, q.sketches, profile, literal);
-    let equality = equality_selectivity(frequent, non_null, profile.distinct.value);
-    let compared = comparison_selectivity(s, q, profile, literal, op, non_null, equality);
-    unless_null(null, compared)
+    if is_null_at(s, literal) {
+        return Estimate::exact(0.0);
+    }
+    let non_null = non_null_fraction(frequency_at(s, profile), rows);
+    comparison_selectivity(s, q, profile, literal, op, non_null)
 }
 
+// A column against the scalar at a place.
 pub fn literal_selectivity(
     s: &[u8],
     q: Sections,
     column: u16,
-    literal: Scalar,
+    literal: usize,
     op: BinaryOp,
 ) -> Estimate
-    ensures { λ r. ⌜ r ≡ literalSelectivity (sheetOf (now (s .entry)) q) column literal op ⌝ }
+    requires { ⌜ literal < 2 ^ 40 ⌝ }
+    ensures { λ r. ⌜ r ≡ literalSelectivity (sheetOf (now (s .entry)) q) column (scalarAt (now (s .entry)) literal) op ⌝ }
 {
-    let found = profile_and_rows(s, q, column);
-    match found {
-        ProfileAndRows::Absent => default_estimate(s, q),
-        ProfileAndRows::Present { profile, rows } => {
-            profile_selectivity(s, q, profile, rows, literal, op)
-        }
+    let found = profile_place(s, q, column);
+    if found.at == 0 {
+        return default_estimate(s, q);
     }
+    profile_selectivity(s, q, found.at, found.rows, literal, op)
 }

@@ -1,6 +1,7 @@
 // IS NULL and IS NOT NULL in filter_selectivity_for_predicate of the source's analysis.rs.
 ghost use mathlib.Core.Path.{_≡_};
 ghost use Rattle.sheet.specs.Sheet.{sheetOf};
+ghost use Rattle.lookup.specs.Lookup.{profileAndRows};
 ghost use Rattle.comparison.specs.Unary.{frequencyIn, frequencyOf, largerRows, isNullSelectivity, isNotNullSelectivity, unaryOf, unarySelectivity};
 use estimate::Estimate;
 use float::option::OptionF64;
@@ -8,10 +9,9 @@ use float::option::none;
 use float::option::some;
 use float::order::clamp_unit;
 use float::order::f64_max;
-use lookup::numbers::expression_of;
-use lookup::profiles::ProfileAndRows;
+use lookup::profiles::frequency_at;
 use lookup::profiles::left_rows;
-use lookup::profiles::profile_and_rows;
+use lookup::profiles::profile_place;
 use lookup::profiles::right_rows;
 use parts::OptionColumn;
 use parts::column_ref;
@@ -20,13 +20,14 @@ use range::selectivity::unit_estimate;
 use records::expressions::UnaryOp;
 use sheet::Sections;
 
-fn frequency_in(found: ProfileAndRows) -> OptionF64
-    ensures { λ r. ⌜ r ≡ frequencyIn found ⌝ }
+fn column_frequency(s: &[u8], q: Sections, column: u16) -> OptionF64
+    ensures { λ r. ⌜ r ≡ frequencyIn (profileAndRows (sheetOf (now (s .entry)) q) column) ⌝ }
 {
-    match found {
-        ProfileAndRows::Absent => none(),
-        ProfileAndRows::Present { profile, rows: _ } => some(profile.frequency.value),
+    let found = profile_place(s, q, column);
+    if found.at == 0 {
+        return none();
     }
+    some(frequency_at(s, found.at))
 }
 
 fn frequency_of(s: &[u8], q: Sections, column: OptionColumn) -> OptionF64
@@ -34,7 +35,7 @@ fn frequency_of(s: &[u8], q: Sections, column: OptionColumn) -> OptionF64
 {
     match column {
         OptionColumn::Absent => none(),
-        OptionColumn::Present(column) => frequency_in(profile_and_rows(s, q, column)),
+        OptionColumn::Present(column) => column_frequency(s, q, column),
     }
 }
 
@@ -76,6 +77,6 @@ fn unary_of(s: &[u8], q: Sections, op: UnaryOp, frequency: OptionF64, rows: f64)
 pub fn unary_selectivity(s: &[u8], q: Sections, op: UnaryOp, expr: u16) -> Estimate
     ensures { λ r. ⌜ r ≡ unarySelectivity (sheetOf (now (s .entry)) q) op expr ⌝ }
 {
-    let frequency = frequency_of(s, q, column_ref(expression_of(s, q, expr)));
+    let frequency = frequency_of(s, q, column_ref(s, q, expr));
     unary_of(s, q, op, frequency, larger_rows(s, q))
 }

@@ -1,27 +1,28 @@
 -- What is looked up in a sheet's lists, by where it stands in the bytes. Assumes nothing.
 use Prim.Native.Nat.{ℕ, zero, suc, _+_, _-_, _*_, _≤_, _<_, min}
 use mathlib.Core.Path.{_≡_, refl, sym, ap, _∙_}
-use mathlib.Core.Bool.{Bool, cond}
+use mathlib.Core.Bool.{Bool, true, false, cond}
 use mathlib.Core.List.{List, _∷_}
 use native.Mathlib.Omega.{arith}
 use native.Mathlib.Nat.{add-zero, zero-add, sub-zero}
-use borrow.Author.Tests.{eq-eqb, ne-eqb}
-use lib.Dec.{eqb}
+use borrow.Author.Tests.{eq-eqb, ne-eqb, ltb-true, ltb-false}
+use lib.Dec.{eqb, ltb}
 use lib.Ieee.{Float}
 use lib.ListN.{length, take, drop, List·getD-eq-default}
-use Rattle.le.specs.Fields.{u16At}
+use Rattle.le.specs.Fields.{byteAt, u16At}
+use Rattle.scalar_bytes.specs.Reading.{scalarAt}
 use Rattle.records.specs.Lists.{tabulateFrom}
 use Rattle.records.specs.Columns.{columnProfileAt}
-use Rattle.records.specs.Expressions.{expressionAt}
-use Rattle.records.specs.declared.columns.ColumnProfile.{ColumnProfile}
-use Rattle.records.specs.declared.expressions.Expression.the-variants.{Other}
+use Rattle.records.specs.Expressions.{unaryOp, binaryOp, naryOp, expressionAt}
+use Rattle.records.specs.declared.expressions.Expression.{Expression}
+use Rattle.records.specs.declared.expressions.Expression.the-variants.{Literal, ColumnRef, Unary, Binary, Nary, Like, Other}
 use Rattle.records.proofs.ListLaws.{tabulate-alike, tabulate-step, tabulate-end}
-use Rattle.sheet.specs.Sheet.{Sheet, recordIn, recordsIn, sheetOf}
+use Rattle.sheet.specs.Sheet.{recordIn, recordsIn, sheetOf}
 use Rattle.sheet.specs.declared.Sections.{Sections}
 use Rattle.sheet.specs.declared.order.Kind.the-variants.{Columns, Expressions, Operands}
 use Rattle.sheet.proofs.PlaceLaws.{columns-fixed, expressions-fixed, operands-fixed, fixed-place}
 use Rattle.sheet.proofs.SheetLaws.{records-length, fixed-record-at}
-use Rattle.lookup.specs.Lookup.{expressionOf, operandIn, operandsOf, profileIn, leftProfile, rightProfile, orElseProfile, profileAndRows}
+use Rattle.lookup.specs.Lookup.{expressionOf, operandIn, operandsOf, profileIn, leftProfile, rightProfile, profileAndRows, placedProfile, PlaceIn, expressionPlace, expressionKind}
 use Rattle.lookup.specs.declared.profiles.ProfileAndRows.{ProfileAndRows}
 use Rattle.lookup.specs.declared.profiles.ProfileAndRows.the-variants.{Absent, Present}
 
@@ -129,23 +130,67 @@ module _ (s : List ℕ) (start : ℕ) (rows : Float) (column : ℕ) where
   unfolding profileIn
   profile-none i h rest = ap (profileIn rows column) (sym (tabulate-end (recordIn Columns columnProfileAt s start) i (u16At s start) h)) ∙ rest
 
+-- ---- the same for every number of rows, by the place that is found
+
+module _ (s : List ℕ) (start column : ℕ) where
+  abbrev pub PlaceRest : ℕ → Type 0
+  PlaceRest i = (rows : Float) → ProfileRest s start rows column i
+
+  pub place-found : (i : ℕ) → i < u16At s start → u16At s (start + 2 + 98 * i) ≡ column → PlaceRest i → PlaceIn s start column (start + 2 + 98 * i)
+  place-found i h e rest rows = rw (ne-eqb (start + 2 + 98 * i) 0 (λ (z : start + 2 + 98 * i ≡ 0). omega arith)) (profile-found s start rows column i h e (rest rows))
+
+  pub place-none : (i : ℕ) → u16At s start ≤ i → PlaceRest i → PlaceIn s start column 0
+  place-none i h rest rows = profile-none s start rows column i h (rest rows)
+
 -- ---- the left side's profile, and the right side's where there is none
 
--- a side's profile, by where its columns stand
-module _ (s : List ℕ) (q : Sections) (column : ℕ) (rows : Float) (x : ProfileAndRows) where
-  pub left-is : rows ≡ sheetOf s q .leftRows .value → x ≡ profileIn rows column (recordsIn Columns columnProfileAt s (q .«left_columns»)) → x ≡ leftProfile (sheetOf s q) column
+module _ (s : List ℕ) (q : Sections) (column at : ℕ) (rows : Float) where
+  pub left-is : PlaceIn s (q .«left_columns») column at → rows ≡ sheetOf s q .leftRows .value → placedProfile s at rows ≡ leftProfile (sheetOf s q) column
   unfolding sheetOf
-  left-is e f = f ∙ ap (λ (z : Float). profileIn z column (recordsIn Columns columnProfileAt s (q .«left_columns»))) e
+  left-is f e = rw e (f _)
 
-  pub right-is : rows ≡ sheetOf s q .rightRows .value → x ≡ profileIn rows column (recordsIn Columns columnProfileAt s (q .«right_columns»)) → x ≡ rightProfile (sheetOf s q) column
+  pub right-is : PlaceIn s (q .«right_columns») column at → rows ≡ sheetOf s q .rightRows .value → placedProfile s at rows ≡ rightProfile (sheetOf s q) column
   unfolding sheetOf
-  right-is e f = f ∙ ap (λ (z : Float). profileIn z column (recordsIn Columns columnProfileAt s (q .«right_columns»))) e
+  right-is f e = rw e (f _)
 
-module _ (sheet : Sheet) (column : ℕ) (x : ProfileAndRows) (is : x ≡ leftProfile sheet column) where
-  pub profile-left : (p : ColumnProfile) (r : Float) → x ≡ Present p r → Present p r ≡ profileAndRows sheet column
+  pub profile-left : PlaceIn s (q .«left_columns») column at → (at ≡ 0 → ⊥) → rows ≡ sheetOf s q .leftRows .value → placedProfile s at rows ≡ profileAndRows (sheetOf s q) column
   unfolding profileAndRows
-  profile-left p r g = sym (ap (λ (y : ProfileAndRows). orElseProfile y (rightProfile sheet column)) (sym is ∙ g))
+  profile-left f ne e = rw (← left-is f e, ne-eqb at 0 ne) refl
 
-  pub profile-right : (y : ProfileAndRows) → x ≡ Absent → y ≡ rightProfile sheet column → y ≡ profileAndRows sheet column
-  unfolding profileAndRows
-  profile-right y g h = h ∙ sym (ap (λ (z : ProfileAndRows). orElseProfile z (rightProfile sheet column)) (sym is ∙ g))
+pub profile-right : (s : List ℕ) (q : Sections) (column left at : ℕ) (rows : Float) → PlaceIn s (q .«left_columns») column left → left ≡ 0
+    → PlaceIn s (q .«right_columns») column at → rows ≡ sheetOf s q .rightRows .value → placedProfile s at rows ≡ profileAndRows (sheetOf s q) column
+unfolding profileAndRows
+profile-right s q column left at rows f z g e = rw (← left-is s q column left (sheetOf s q .leftRows .value) f refl, z) (right-is s q column at rows g e)
+
+-- ---- expressions by their kinds
+
+-- what stands at a place, if this is its kind: the kinds of document 01
+abbrev pub ofKind : List ℕ → ℕ → ℕ → Expression
+ofKind s at kind =
+    cond (eqb kind 0) (Literal (scalarAt s (at + 6)))
+    (cond (eqb kind 1) (ColumnRef (u16At s (at + 2)))
+    (cond (eqb kind 2) (Unary (unaryOp (byteAt s (at + 1))) (u16At s (at + 2)))
+    (cond (eqb kind 3) (Binary (binaryOp (byteAt s (at + 1))) (u16At s (at + 2)) (u16At s (at + 4)))
+    (cond (eqb kind 4) (Nary (naryOp (byteAt s (at + 1))) (u16At s (at + 2)) (u16At s (at + 4)))
+    (cond (eqb kind 5) Like Other)))))
+
+pub expression-of-kind : (s : List ℕ) (q : Sections) (e : ℕ) → expressionOf (sheetOf s q) e ≡ ofKind s (expressionPlace (q .expressions) e) (expressionKind s q e)
+unfolding expressionAt
+expression-of-kind s q e = go (ltb e (u16At s (q .expressions))) refl
+  where
+    at : ℕ
+    at = expressionPlace (q .expressions) e
+
+    go : (b : Bool) → ltb e (u16At s (q .expressions)) ≡ b → expressionOf (sheetOf s q) e ≡ ofKind s at (cond b (byteAt s at) 6)
+    go true h =
+        let below = ltb-true e (u16At s (q .expressions)) h in
+        let l = expressions-length s q in
+        sym (expression-found s q e (omega arith))
+    go false h =
+        let past = ltb-false e (u16At s (q .expressions)) h in
+        let l = expressions-length s q in
+        sym (expression-missing s q e (omega arith))
+
+-- and so for a kind that is told
+pub expression-is : (s : List ℕ) (q : Sections) (e kind : ℕ) → expressionKind s q e ≡ kind → expressionOf (sheetOf s q) e ≡ ofKind s (expressionPlace (q .expressions) e) kind
+expression-is s q e kind h = expression-of-kind s q e ∙ ap (ofKind s (expressionPlace (q .expressions) e)) h

@@ -1,15 +1,19 @@
 -- What a figure looks up in a sheet. Definitions only.
 use Prim.Native.Nat.{ℕ, _+_, _*_}
+use mathlib.Core.Path.{_≡_}
 use mathlib.Core.Bool.{cond}
 use mathlib.Core.List.{List, [], _∷_}
-use lib.Dec.{eqb}
+use lib.Dec.{eqb, ltb}
 use lib.ListN.{getD, take, drop}
 use lib.Ieee.{Float}
-use Rattle.le.specs.Fields.{u16At}
+use Rattle.le.specs.Fields.{byteAt, u16At}
+use Rattle.records.specs.Columns.{columnProfileAt}
 use Rattle.records.specs.declared.columns.ColumnProfile.{ColumnProfile}
 use Rattle.records.specs.declared.expressions.Expression.{Expression}
 use Rattle.records.specs.declared.expressions.Expression.the-variants.{Other}
-use Rattle.sheet.specs.Sheet.{Sheet}
+use Rattle.sheet.specs.Sheet.{Sheet, recordsIn}
+use Rattle.sheet.specs.declared.Sections.{Sections}
+use Rattle.sheet.specs.declared.order.Kind.the-variants.{Columns}
 use Rattle.lookup.specs.declared.profiles.ProfileAndRows.{ProfileAndRows}
 use Rattle.lookup.specs.declared.profiles.ProfileAndRows.the-variants.{Absent, Present}
 
@@ -48,3 +52,21 @@ rightProfile sheet column = profileIn (sheet .rightRows .value) column (sheet .r
 unfoldable pub profileAndRows : Sheet → ℕ → ProfileAndRows
 unfolding profileIn
 profileAndRows sheet column = orElseProfile (leftProfile sheet column) (rightProfile sheet column)
+
+-- ---- by where they stand in the bytes
+
+-- the profile that a place stands for: at 0, where the rows' count is, there is none
+abbrev pub placedProfile : List ℕ → ℕ → Float → ProfileAndRows
+placedProfile s at rows = cond (eqb at 0) Absent (Present (columnProfileAt s at) rows)
+
+-- the place stands for a column's profile in the list of a side whose count stands at `start`, whatever its rows
+abbrev pub PlaceIn : List ℕ → ℕ → ℕ → ℕ → Type 0
+PlaceIn s start column at = (rows : Float) → placedProfile s at rows ≡ profileIn rows column (recordsIn Columns columnProfileAt s start)
+
+-- expression e of the section whose count stands at `start`
+abbrev pub expressionPlace : ℕ → ℕ → ℕ
+expressionPlace start e = start + 2 + 25 * e
+
+-- the byte that tells its kind; where there is no such expression, that of any other one
+abbrev pub expressionKind : List ℕ → Sections → ℕ → ℕ
+expressionKind s q e = cond (ltb e (u16At s (q .expressions))) (byteAt s (expressionPlace (q .expressions) e)) 6

@@ -3,7 +3,8 @@ ghost use mathlib.Core.Path.{_≡_};
 ghost use Prim.Native.Nat.{_+_, _<_, _^_, min};
 ghost use lib.ListN.{length};
 ghost use Rattle.sheet.specs.Sheet.{sheetOf};
-ghost use Rattle.lookup.specs.Lookup.{expressionOf, operandIn};
+ghost use Rattle.lookup.specs.Lookup.{expressionOf, operandIn, expressionPlace, expressionKind};
+use le::reads::byte_at;
 use le::reads::u16_at;
 use records::expressions::Expression;
 use records::expressions::expression_at;
@@ -22,6 +23,23 @@ pub fn expression_of(s: &[u8], q: Sections, e: u16) -> Expression
         return expression_at(s, q.expressions as usize + 2 + 25 * e as usize);
     }
     Expression::Other
+}
+
+// Where an expression stands, if the section has it.
+pub fn expression_place(q: Sections, e: u16) -> usize
+    ensures { λ r. ⌜ (r ≡ expressionPlace (q .expressions) e) × (r < 2 ^ 40) ⌝ }
+{
+    q.expressions as usize + 2 + 25 * e as usize
+}
+
+// The kind of an expression, as its byte tells it.
+pub fn expression_kind(s: &[u8], q: Sections, e: u16) -> u8
+    ensures { λ r. ⌜ r ≡ expressionKind (now (s .entry)) q e ⌝ }
+{
+    if e < u16_at(s, q.expressions as usize) {
+        return byte_at(s, expression_place(q, e));
+    }
+    6
 }
 
 pub fn operand_count(s: &[u8], q: Sections) -> u16

@@ -2,12 +2,16 @@
 // equated.
 ghost use mathlib.Core.Path.{_≡_};
 ghost use Rattle.sheet.specs.Sheet.{sheetOf};
-ghost use Rattle.parts.specs.Parts.{isEquality, isNullSafe, bothColumns, columnEqualityFromParts, equalityIn, columnEquality};
+ghost use Rattle.lookup.specs.Lookup.{expressionOf};
+ghost use Rattle.parts.specs.Parts.{isEquality, isNullSafe, bothColumns, columnEqualityFromParts, columnEquality};
 use crate::OptionColumn;
 use crate::column_ref;
-use lookup::numbers::expression_of;
+use le::reads::byte_at;
+use le::reads::u16_at;
+use lookup::numbers::expression_kind;
+use lookup::numbers::expression_place;
 use records::expressions::BinaryOp;
-use records::expressions::Expression;
+use records::expressions::binary_op;
 use sheet::Sections;
 
 pub enum ColumnEquality {
@@ -15,7 +19,7 @@ pub enum ColumnEquality {
     Present { left: u16, right: u16 },
 }
 
-fn is_equality(op: BinaryOp) -> bool
+pub fn is_equality(op: BinaryOp) -> bool
     ensures { λ r. ⌜ r ≡ isEquality op ⌝ }
 {
     match op {
@@ -64,43 +68,29 @@ fn both_columns(left: OptionColumn, right: OptionColumn) -> ColumnEquality
     }
 }
 
+// The sides by their numbers.
 pub fn column_equality_from_parts(
+    s: &[u8],
+    q: Sections,
     op: BinaryOp,
-    left: Expression,
-    right: Expression,
+    left: u16,
+    right: u16,
 ) -> ColumnEquality
-    ensures { λ r. ⌜ r ≡ columnEqualityFromParts op left right ⌝ }
+    ensures { λ r. ⌜ r ≡ columnEqualityFromParts op (expressionOf (sheetOf (now (s .entry)) q) left) (expressionOf (sheetOf (now (s .entry)) q) right) ⌝ }
 {
     if is_equality(op) {
-        return both_columns(column_ref(left), column_ref(right));
+        return both_columns(column_ref(s, q, left), column_ref(s, q, right));
     }
     ColumnEquality::Absent
-}
-
-fn equality_in(s: &[u8], q: Sections, x: Expression) -> ColumnEquality
-    ensures { λ r. ⌜ r ≡ equalityIn (sheetOf (now (s .entry)) q) x ⌝ }
-{
-    match x {
-        Expression::Literal(_) => ColumnEquality::Absent,
-        Expression::ColumnRef(_) => ColumnEquality::Absent,
-        Expression::Unary { op: _, expr: _ } => ColumnEquality::Absent,
-        Expression::Binary { op, left, right } => column_equality_from_parts(
-            op,
-            expression_of(s, q, left),
-            expression_of(s, q, right),
-        ),
-        Expression::Nary {
-            op: _,
-            first: _,
-            count: _,
-        } => ColumnEquality::Absent,
-        Expression::Like => ColumnEquality::Absent,
-        Expression::Other => ColumnEquality::Absent,
-    }
 }
 
 pub fn column_equality(s: &[u8], q: Sections, e: u16) -> ColumnEquality
     ensures { λ r. ⌜ r ≡ columnEquality (sheetOf (now (s .entry)) q) e ⌝ }
 {
-    equality_in(s, q, expression_of(s, q, e))
+    if expression_kind(s, q, e) == 3 {
+        let at = expression_place(q, e);
+        let op = binary_op(byte_at(s, at + 1));
+        return column_equality_from_parts(s, q, op, u16_at(s, at + 2), u16_at(s, at + 4));
+    }
+    ColumnEquality::Absent
 }

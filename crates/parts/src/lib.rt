@@ -1,8 +1,13 @@
 // What the sides of a binary expression are: column_ref of the source's analysis.rs, and in the
-// modules its column_literal, column_equality and column_equality_from_parts.
+// modules what its column_literal gives, its column_equality and column_equality_from_parts.
 ghost use mathlib.Core.Path.{_≡_};
+ghost use Rattle.sheet.specs.Sheet.{sheetOf};
+ghost use Rattle.lookup.specs.Lookup.{expressionOf};
 ghost use Rattle.parts.specs.Parts.{columnRef};
-use records::expressions::Expression;
+use le::reads::u16_at;
+use lookup::numbers::expression_kind;
+use lookup::numbers::expression_place;
+use sheet::Sections;
 
 pub mod equalities;
 pub mod literals;
@@ -12,24 +17,12 @@ pub enum OptionColumn {
     Present(u16),
 }
 
-pub fn column_ref(x: Expression) -> OptionColumn
-    ensures { λ r. ⌜ r ≡ columnRef x ⌝ }
+// Of the expression with a number.
+pub fn column_ref(s: &[u8], q: Sections, e: u16) -> OptionColumn
+    ensures { λ r. ⌜ r ≡ columnRef (expressionOf (sheetOf (now (s .entry)) q) e) ⌝ }
 {
-    match x {
-        Expression::Literal(_) => OptionColumn::Absent,
-        Expression::ColumnRef(column) => OptionColumn::Present(column),
-        Expression::Unary { op: _, expr: _ } => OptionColumn::Absent,
-        Expression::Binary {
-            op: _,
-            left: _,
-            right: _,
-        } => OptionColumn::Absent,
-        Expression::Nary {
-            op: _,
-            first: _,
-            count: _,
-        } => OptionColumn::Absent,
-        Expression::Like => OptionColumn::Absent,
-        Expression::Other => OptionColumn::Absent,
+    if expression_kind(s, q, e) == 1 {
+        return OptionColumn::Present(u16_at(s, expression_place(q, e) + 2));
     }
+    OptionColumn::Absent
 }

@@ -1,21 +1,23 @@
 -- Laws of predicates: what an expression gives, and the operands of a run one by one. Assumes nothing.
 use Prim.Native.Nat.{ℕ, _+_, _-_, _≤_, _<_, min}
-use mathlib.Core.Path.{_≡_, sym, ap, _∙_}
+use mathlib.Core.Path.{_≡_, refl, sym, ap, _∙_}
 use mathlib.Core.List.{List}
+use borrow.Author.Tests.{ne-eqb}
 use lib.ListN.{length}
 use lib.Ieee.{Float, binary64, mul}
 use Rattle.float.specs.Order.{f64One}
+use Rattle.le.specs.Fields.{byteAt, u16At}
 use Rattle.estimate.specs.declared.Estimate.{Estimate}
 use Rattle.records.specs.Lists.{tabulateFrom}
 use Rattle.records.specs.declared.expressions.NaryOp.{NaryOp}
-use Rattle.records.specs.declared.expressions.Expression.{Expression}
-use Rattle.records.specs.declared.expressions.Expression.the-variants.{Nary}
+use Rattle.records.specs.Expressions.{naryOp}
+use Rattle.records.specs.declared.expressions.Expression.the-variants.{Other}
 use Rattle.records.proofs.ListLaws.{tabulate-step, tabulate-end}
 use Rattle.sheet.specs.Sheet.{Sheet, sheetOf}
 use Rattle.sheet.specs.declared.Sections.{Sections}
-use Rattle.lookup.specs.Lookup.{expressionOf, operandIn, operandsOf}
+use Rattle.lookup.specs.Lookup.{operandIn, operandsOf, expressionPlace, expressionKind}
 use Rattle.lookup.specs.Recursion.{below, byNumber}
-use Rattle.lookup.proofs.LookupLaws.{operands-from}
+use Rattle.lookup.proofs.LookupLaws.{operands-from, ofKind, expression-is}
 use Rattle.lookup.proofs.RecursionLaws.{below-is, below-not}
 use Rattle.range.specs.Selectivity.{defaultEstimate}
 use Rattle.predicate.specs.Predicate.{operandFactor, operandProduct, naryEstimate, estimateOf, selectivityBy, defaultOf, filterSelectivityForPredicate}
@@ -24,15 +26,24 @@ use Rattle.predicate.specs.Predicate.{operandFactor, operandProduct, nar
 abbrev pub estimatesBelow : Sheet → ℕ → ℕ → Estimate
 estimatesBelow sheet = below (selectivityBy sheet) (defaultOf sheet)
 
--- ---- one expression
+-- ---- one expression, by its kind and its place
 
-pub of-expression : (sheet : Sheet) (e : ℕ) (x y : Expression) → x ≡ expressionOf sheet e → x ≡ y → estimateOf sheet (estimatesBelow sheet e) y ≡ filterSelectivityForPredicate sheet e
-unfolding filterSelectivityForPredicate byNumber selectivityBy
-of-expression sheet e x y at is = ap (estimateOf sheet (estimatesBelow sheet e)) (sym is ∙ at)
+module _ (s : List ℕ) (q : Sections) (e kind at : ℕ) (is : kind ≡ expressionKind s q e) (stands : at ≡ expressionPlace (q .expressions) e) where
+  pub of-kind : (told : ℕ) → kind ≡ told → estimateOf (sheetOf s q) (estimatesBelow (sheetOf s q) e) (ofKind s at told) ≡ filterSelectivityForPredicate (sheetOf s q) e
+  unfolding filterSelectivityForPredicate byNumber selectivityBy
+  of-kind told h = rw stands (ap (estimateOf (sheetOf s q) (estimatesBelow (sheetOf s q) e)) (sym (expression-is s q e told (sym is ∙ h))))
 
-pub of-nary : (sheet : Sheet) (e : ℕ) (x : Expression) (op : NaryOp) (first count : ℕ) (product : Float) (r : Estimate) → r ≡ naryEstimate op product → product ≡ operandProduct op (estimatesBelow sheet e) f64One (operandsOf sheet first count)
-    → x ≡ expressionOf sheet e → x ≡ Nary op first count → r ≡ filterSelectivityForPredicate sheet e
-of-nary sheet e x op first count product r f g at is = f ∙ ap (naryEstimate op) g ∙ of-expression sheet e x (Nary op first count) at is
+  pub of-nary : (op : NaryOp) (number first count : ℕ) (product : Float) (r : Estimate) → kind ≡ 4 → r ≡ naryEstimate op product
+      → product ≡ operandProduct op (estimatesBelow (sheetOf s q) e) f64One (operandsOf (sheetOf s q) first count) → op ≡ naryOp number → number ≡ byteAt s (at + 1) → first ≡ u16At s (at + 2) → count ≡ u16At s (at + 4)
+      → r ≡ filterSelectivityForPredicate (sheetOf s q) e
+  of-nary op number first count product r h f g o n a b = f ∙ ap (naryEstimate op) g ∙ rw (o, n, a, b) (of-kind 4 h)
+
+  -- a kind past the last
+  pub of-other : (kind ≡ 0 → ⊥) → (kind ≡ 1 → ⊥) → (kind ≡ 2 → ⊥) → (kind ≡ 3 → ⊥) → (kind ≡ 4 → ⊥) → (kind ≡ 5 → ⊥) → defaultEstimate (sheetOf s q) ≡ filterSelectivityForPredicate (sheetOf s q) e
+  of-other n0 n1 n2 n3 n4 n5 = ap (estimateOf (sheetOf s q) (estimatesBelow (sheetOf s q) e)) (sym other) ∙ of-kind kind refl
+    where
+      other : ofKind s at kind ≡ Other
+      other = rw (ne-eqb kind 0 n0, ne-eqb kind 1 n1, ne-eqb kind 2 n2, ne-eqb kind 3 n3, ne-eqb kind 4 n4, ne-eqb kind 5 n5) refl
 
 -- ---- an operand, below a limit or not
 

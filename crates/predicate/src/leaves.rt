@@ -1,14 +1,27 @@
-// What needs no other expression: literals, LIKE, and how an operand counts.
+// What needs no other expression's estimate, by the place of the expression, and how an operand counts.
 ghost use mathlib.Core.Path.{_≡_};
+ghost use Prim.Native.Nat.{_+_, _<_, _^_};
+ghost use Rattle.le.specs.Fields.{byteAt, u16At};
+ghost use Rattle.scalar_bytes.specs.Reading.{scalarAt};
+ghost use Rattle.records.specs.Expressions.{unaryOp, binaryOp};
 ghost use Rattle.range.specs.Selectivity.{unitEstimate};
 ghost use Rattle.sheet.specs.Sheet.{sheetOf};
+ghost use Rattle.comparison.specs.Unary.{unarySelectivity};
+ghost use Rattle.comparison.specs.Binary.{binarySelectivity};
 ghost use Rattle.predicate.specs.Predicate.{truthEstimate, literalEstimate, operandFactor, naryEstimate};
+use comparison::binary::binary_selectivity;
+use comparison::unary::unary_selectivity;
 use estimate::Estimate;
+use le::floats::f64_at;
+use le::reads::byte_at;
+use le::reads::u16_at;
 use range::selectivity::default_estimate;
-use range::selectivity::settings_of;
 use range::selectivity::unit_estimate;
 use records::expressions::NaryOp;
+use records::expressions::binary_op;
+use records::expressions::unary_op;
 use scalar::Scalar;
+use scalar_bytes::reads::scalar_at;
 use sheet::Sections;
 
 fn truth_estimate(b: bool) -> Estimate
@@ -21,7 +34,7 @@ fn truth_estimate(b: bool) -> Estimate
     }
 }
 
-pub fn literal_estimate(s: &[u8], q: Sections, value: Scalar) -> Estimate
+fn literal_estimate(s: &[u8], q: Sections, value: Scalar) -> Estimate
     ensures { λ r. ⌜ r ≡ literalEstimate (sheetOf (now (s .entry)) q) value ⌝ }
 {
     match value {
@@ -48,10 +61,39 @@ pub fn literal_estimate(s: &[u8], q: Sections, value: Scalar) -> Estimate
     }
 }
 
+pub fn literal_at(s: &[u8], q: Sections, at: usize) -> Estimate
+    requires { ⌜ at < 2 ^ 40 ⌝ }
+    ensures { λ r. ⌜ r ≡ literalEstimate (sheetOf (now (s .entry)) q) (scalarAt (now (s .entry)) (at + 6)) ⌝ }
+{
+    literal_estimate(s, q, scalar_at(s, at + 6))
+}
+
+pub fn unary_at(s: &[u8], q: Sections, at: usize) -> Estimate
+    requires { ⌜ at < 2 ^ 40 ⌝ }
+    ensures { λ r. ⌜ r ≡ unarySelectivity (sheetOf (now (s .entry)) q) (unaryOp (byteAt (now (s .entry)) (at + 1))) (u16At (now (s .entry)) (at + 2)) ⌝ }
+{
+    let op = unary_op(byte_at(s, at + 1));
+    unary_selectivity(s, q, op, u16_at(s, at + 2))
+}
+
+pub fn binary_at(s: &[u8], q: Sections, at: usize) -> Estimate
+    requires { ⌜ at < 2 ^ 40 ⌝ }
+    ensures { λ r. ⌜ r ≡ binarySelectivity (sheetOf (now (s .entry)) q) (binaryOp (byteAt (now (s .entry)) (at + 1))) (u16At (now (s .entry)) (at + 2)) (u16At (now (s .entry)) (at + 4)) ⌝ }
+{
+    let op = binary_op(byte_at(s, at + 1));
+    binary_selectivity(s, q, op, u16_at(s, at + 2), u16_at(s, at + 4))
+}
+
+fn like_selectivity(s: &[u8], q: Sections) -> f64
+    ensures { λ r. ⌜ r ≡ sheetOf (now (s .entry)) q .settings .«like_selectivity» ⌝ }
+{
+    f64_at(s, q.settings as usize + 2)
+}
+
 pub fn like_estimate(s: &[u8], q: Sections) -> Estimate
     ensures { λ r. ⌜ r ≡ unitEstimate (sheetOf (now (s .entry)) q .settings .«like_selectivity») ⌝ }
 {
-    unit_estimate(settings_of(s, q).like_selectivity)
+    unit_estimate(like_selectivity(s, q))
 }
 
 pub fn operand_factor(op: NaryOp, selected: f64) -> f64

@@ -6,19 +6,22 @@ ghost use Rattle.lookup.specs.Lookup.{operandsOf};
 ghost use Rattle.lookup.specs.Recursion.{below};
 ghost use Rattle.sheet.specs.Sheet.{sheetOf};
 ghost use Rattle.predicate.specs.Predicate.{operandProduct, selectivityBy, defaultOf, filterSelectivityForPredicate};
-use comparison::binary::binary_selectivity;
-use comparison::unary::unary_selectivity;
 use estimate::Estimate;
+use le::reads::byte_at;
+use le::reads::u16_at;
+use leaves::binary_at;
 use leaves::like_estimate;
-use leaves::literal_estimate;
+use leaves::literal_at;
 use leaves::nary_estimate;
 use leaves::operand_factor;
-use lookup::numbers::expression_of;
+use leaves::unary_at;
+use lookup::numbers::expression_kind;
+use lookup::numbers::expression_place;
 use lookup::numbers::operand_in;
 use lookup::numbers::run_end;
 use range::selectivity::default_estimate;
-use records::expressions::Expression;
 use records::expressions::NaryOp;
+use records::expressions::nary_op;
 use sheet::Sections;
 
 mod leaves;
@@ -26,17 +29,21 @@ mod leaves;
 pub fn filter_selectivity_for_predicate(s: &[u8], q: Sections, e: u16) -> Estimate
     ensures { λ r. ⌜ r ≡ filterSelectivityForPredicate (sheetOf (now (s .entry)) q) e ⌝ }
 {
-    let x = expression_of(s, q, e);
-    match x {
-        Expression::Literal(value) => literal_estimate(s, q, value),
-        Expression::ColumnRef(_) => default_estimate(s, q),
-        Expression::Unary { op, expr } => unary_selectivity(s, q, op, expr),
-        Expression::Binary { op, left, right } => binary_selectivity(s, q, op, left, right),
-        Expression::Nary { op, first, count } => {
+    let kind = expression_kind(s, q, e);
+    let at = expression_place(q, e);
+    match kind {
+        0 => literal_at(s, q, at),
+        1 => default_estimate(s, q),
+        2 => unary_at(s, q, at),
+        3 => binary_at(s, q, at),
+        4 => {
+            let op = nary_op(byte_at(s, at + 1));
+            let first = u16_at(s, at + 2);
+            let count = u16_at(s, at + 4);
             nary_estimate(op, operand_product(s, q, op, first, count, e))
         }
-        Expression::Like => like_estimate(s, q),
-        Expression::Other => default_estimate(s, q),
+        5 => like_estimate(s, q),
+        _ => default_estimate(s, q),
     }
 }
 

@@ -1,30 +1,22 @@
 // range_selectivity of the source's analysis.rs.
 ghost use mathlib.Core.Path.{_≡_};
-ghost use Rattle.range.specs.Range.{boundNumber, width, partBelow, partAbove, selected, rangeOf, rangeSelectivity};
+ghost use Prim.Native.Nat.{_<_, _^_};
+ghost use Rattle.scalar_bytes.specs.Reading.{scalarAt};
+ghost use Rattle.records.specs.Columns.{columnProfileAt};
+ghost use Rattle.range.specs.Range.{width, partBelow, partAbove, selected, rangeOf, rangeSelectivity};
+use crate::numbers::bound_number_at;
+use crate::numbers::number_at;
 use crate::selectivity::unit_estimate;
 use estimate::Estimate;
 use float::option::OptionF64;
-use float::option::none;
 use float::order::absolute;
 use float::order::clamp_unit;
 use float::order::f64_max;
-use records::columns::ColumnProfile;
 use records::expressions::BinaryOp;
 use rules::both;
-use scalar::Bound;
-use scalar::Scalar;
-use scalar::number::scalar_to_f64;
 
+mod numbers;
 pub mod selectivity;
-
-fn bound_number(bound: Bound) -> OptionF64
-    ensures { λ r. ⌜ r ≡ boundNumber bound ⌝ }
-{
-    match bound {
-        Bound::Absent => none(),
-        Bound::Present(bound) => scalar_to_f64(bound),
-    }
-}
 
 fn width(min: f64, max: f64) -> f64
     ensures { λ r. ⌜ r ≡ width min max ⌝ }
@@ -77,17 +69,18 @@ fn range_of(
     unit_estimate(fallback)
 }
 
+// Of the profile at a place, against the scalar at a place.
 pub fn range_selectivity(
-    profile: ColumnProfile,
-    literal: Scalar,
+    s: &[u8],
+    profile: usize,
+    literal: usize,
     op: BinaryOp,
     fallback: f64,
 ) -> Estimate
-    ensures { λ r. ⌜ r ≡ rangeSelectivity profile literal op fallback ⌝ }
+    requires { ⌜ (profile < 2 ^ 40) × (literal < 2 ^ 40) ⌝ }
+    ensures { λ r. ⌜ r ≡ rangeSelectivity (columnProfileAt (now (s .entry)) profile) (scalarAt (now (s .entry)) literal) op fallback ⌝ }
 {
-    let lower = profile.lower;
-    let upper = profile.upper;
-    let min = bound_number(lower);
-    let max = bound_number(upper);
-    range_of(op, fallback, min, max, scalar_to_f64(literal))
+    let min = bound_number_at(s, profile + 6);
+    let max = bound_number_at(s, profile + 25);
+    range_of(op, fallback, min, max, number_at(s, literal))
 }

@@ -5,8 +5,7 @@ ghost use Rattle.range.specs.Selectivity.{unitEstimate, defaultEstimate,
 use estimate::Estimate;
 use float::option::some;
 use float::order::clamp_unit;
-use records::settings::CardinalityEstimationConfig;
-use records::settings::settings_at;
+use le::floats::f64_at;
 use sheet::Sections;
 
 pub fn unit_estimate(value: f64) -> Estimate
@@ -15,16 +14,22 @@ pub fn unit_estimate(value: f64) -> Estimate
     Estimate::derived(value, some(0.0), some(1.0))
 }
 
-pub fn settings_of(s: &[u8], q: Sections) -> CardinalityEstimationConfig
-    ensures { λ r. ⌜ r ≡ sheetOf (now (s .entry)) q .settings ⌝ }
+fn default_predicate_selectivity(s: &[u8], q: Sections) -> f64
+    ensures { λ r. ⌜ r ≡ sheetOf (now (s .entry)) q .settings .«default_predicate_selectivity» ⌝ }
 {
-    settings_at(s, q.settings as usize + 2)
+    f64_at(s, q.settings as usize + 2 + 8)
+}
+
+pub fn range_fallback_selectivity(s: &[u8], q: Sections) -> f64
+    ensures { λ r. ⌜ r ≡ sheetOf (now (s .entry)) q .settings .«range_fallback_selectivity» ⌝ }
+{
+    f64_at(s, q.settings as usize + 2 + 16)
 }
 
 pub fn default_estimate(s: &[u8], q: Sections) -> Estimate
     ensures { λ r. ⌜ r ≡ defaultEstimate (sheetOf (now (s .entry)) q) ⌝ }
 {
-    unit_estimate(settings_of(s, q).default_predicate_selectivity)
+    unit_estimate(default_predicate_selectivity(s, q))
 }
 
 pub fn non_null_fraction(frequency: f64, rows: f64) -> f64

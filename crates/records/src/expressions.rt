@@ -45,7 +45,7 @@ pub enum Expression {
 }
 
 // The operator with the number n; where n is past the last, the last.
-fn unary_op(n: u8) -> UnaryOp
+pub fn unary_op(n: u8) -> UnaryOp
     ensures { λ r. ⌜ r ≡ unaryOp n ⌝ }
 {
     match n {
@@ -56,7 +56,7 @@ fn unary_op(n: u8) -> UnaryOp
     }
 }
 
-fn binary_op(n: u8) -> BinaryOp
+pub fn binary_op(n: u8) -> BinaryOp
     ensures { λ r. ⌜ r ≡ binaryOp n ⌝ }
 {
     match n {
@@ -74,7 +74,7 @@ fn binary_op(n: u8) -> BinaryOp
     }
 }
 
-fn nary_op(n: u8) -> NaryOp
+pub fn nary_op(n: u8) -> NaryOp
     ensures { λ r. ⌜ r ≡ naryOp n ⌝ }
 {
     match n {

@@ -1,6 +1,7 @@
 // frequent_value_selectivity of the source's analysis.rs, over sketches where they stand in a sheet.
 ghost use mathlib.Core.Path.{_≡_};
 ghost use Prim.Native.Nat.{_<_, _^_};
+ghost use Rattle.records.specs.Columns.{sketchNumberAt, columnProfileAt};
 ghost use Rattle.records.specs.Sketches.{sketchAt};
 ghost use Rattle.sheet.specs.Sheet.{recordsIn};
 ghost use Rattle.sheet.specs.declared.order.Kind.the-variants.{Sketches};
@@ -15,10 +16,9 @@ use items::find_item;
 use items::item_count;
 use items::population;
 use items::residual_rows;
+use le::floats::f64_at;
 use le::reads::u16_at;
 use places::sketch_place;
-use records::columns::ColumnProfile;
-use records::columns::SketchNumber;
 use scalar::Scalar;
 use scalar::is_null;
 use std::num::nearest_u64_to_f64;
@@ -65,39 +65,40 @@ fn sketch_selectivity(s: &[u8], at: usize, distinct: f64, value: Scalar) -> Opti
     some(found_selectivity(find_item(s, at, value), s, at, distinct))
 }
 
-// The sketch with a number. A number that the section does not hold names no sketch.
+// The sketch whose number stands at a place. FFFF and a number that the section does not hold name
+// no sketch.
 fn numbered_selectivity(
     s: &[u8],
     start: u16,
-    sketch: SketchNumber,
+    number: usize,
     distinct: f64,
     literal: Scalar,
 ) -> OptionF64
-    ensures { λ r. ⌜ r ≡ numberedSelectivity sketch (recordsIn Sketches sketchAt (now (s .entry)) start) distinct literal ⌝ }
+    ensures { λ r. ⌜ r ≡ numberedSelectivity (sketchNumberAt (now (s .entry)) number) (recordsIn Sketches sketchAt (now (s .entry)) start) distinct literal ⌝ }
 {
-    match sketch {
-        SketchNumber::Absent => none(),
-        SketchNumber::Present(k) => {
-            if k < u16_at(s, start as usize) {
-                return sketch_selectivity(s, sketch_place(s, start as usize, k), distinct, literal);
-            }
-            none()
-        }
+    let k = u16_at(s, number);
+    if k == 0xffff {
+        return none();
     }
+    if k < u16_at(s, start as usize) {
+        return sketch_selectivity(s, sketch_place(s, start as usize, k), distinct, literal);
+    }
+    none()
 }
 
-// `start` is the place of the count of a sheet's sketches.
+// Of the profile at a place. `start` is the place of the count of a sheet's sketches.
 pub fn frequent_value_selectivity(
     s: &[u8],
     start: u16,
-    profile: ColumnProfile,
+    profile: usize,
     literal: Scalar,
 ) -> OptionF64
-    ensures { λ r. ⌜ r ≡ frequentValueSelectivity (recordsIn Sketches sketchAt (now (s .entry)) start) profile literal ⌝ }
+    requires { ⌜ profile < 2 ^ 40 ⌝ }
+    ensures { λ r. ⌜ r ≡ frequentValueSelectivity (recordsIn Sketches sketchAt (now (s .entry)) start) (columnProfileAt (now (s .entry)) profile) literal ⌝ }
 {
     if is_null(literal) {
         return none();
     }
-    let sketch = profile.sketch;
-    numbered_selectivity(s, start, sketch, profile.distinct.value, literal)
+    let distinct = f64_at(s, profile + 70 + 2);
+    numbered_selectivity(s, start, profile + 96, distinct, literal)
 }

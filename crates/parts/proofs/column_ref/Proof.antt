@@ -1,66 +1,37 @@
--- A column reference gives its column, and any other expression none. Assumes nothing.
-use mathlib.Core.Path.{refl}
+-- Only kind 1 is a column. Assumes nothing.
+use Rattle.parts.proofs.KindLaws.{column-not}
+use Rattle.lookup.proofs.LookupLaws.{expression-is}
+use mathlib.Core.Path.{refl, sym, _∙_}
 use borrow.Author.Needs.{needs}
 use Rattle.parts.proofs.column_ref.Statement.{statement}
 use Rattle.parts.proofs.column_ref.Tie as tie
+use Rattle.parts.proofs.column_ref.Reads as reads
 
-enum-told : tie.Need-enum-told
-enum-told c = search needs
+expression-kind-requires : tie.Need-expression-kind-requires
+expression-kind-requires c κs = search needs
 
-enum-known-x : tie.Need-enum-known-x
-enum-known-x c = search needs
+expression-place-requires : tie.Need-expression-place-requires
+expression-place-requires c κs = search needs
 
-enum-told-2 : tie.Need-enum-told-2
-enum-told-2 c = search needs
+add-u16-at : tie.Need-add-u16-at
+add-u16-at c = search needs
 
-enum-told-3 : tie.Need-enum-told-3
-enum-told-3 c = search needs
-
-enum-told-4 : tie.Need-enum-told-4
-enum-told-4 c = search needs
-
-enum-told-5 : tie.Need-enum-told-5
-enum-told-5 c = search needs
-
-enum-told-6 : tie.Need-enum-told-6
-enum-told-6 c = search needs
+u16-at-requires : tie.Need-u16-at-requires
+u16-at-requires c κs = search needs
 
 returns : tie.Need-returns
-returns c = search needs
+returns c = let k = c .before .before .before in let args = k .before .before .args in rw (c .u16-at .ensures, c .before .expression-place .ensures .0, expression-is (args .s .now) (args .q) (args .e) 1 (sym (k .expression-kind .ensures) ∙ c .before .before .if1 .taken)) refl
 
 returns-2 : tie.Need-returns-2
-returns-2 c = rw (c .before .x .given .1) refl
-
-returns-3 : tie.Need-returns-3
-returns-3 c = search needs
-
-returns-4 : tie.Need-returns-4
-returns-4 c = search needs
-
-returns-5 : tie.Need-returns-5
-returns-5 c = search needs
-
-returns-6 : tie.Need-returns-6
-returns-6 c = search needs
-
-returns-7 : tie.Need-returns-7
-returns-7 c = search needs
+returns-2 c = let args = c .before .before .before .args in sym (column-not (args .s .now) (args .q) (args .e) (λ h. c .if1 .left (c .before .expression-kind .ensures ∙ h)))
 
 pub column-ref-spec : {M : Type 1} → statement M
 column-ref-spec =
     tie.close
     (tie.spec
-    enum-told
-    enum-known-x
-    enum-told-2
-    enum-told-3
-    enum-told-4
-    enum-told-5
-    enum-told-6
+    expression-kind-requires
+    expression-place-requires
+    add-u16-at
+    u16-at-requires
     returns
-    returns-2
-    returns-3
-    returns-4
-    returns-5
-    returns-6
-    returns-7)
+    returns-2)

@@ -1,12 +1,12 @@
 -- Every expression has its definition's estimate: an And's or Or's through its operands, each of a smaller number. Assumes nothing.
-use Rattle.predicate.proofs.PredicateLaws.{estimatesBelow, of-expression, of-nary, operand-below, operand-not-below, ProductRest, product-first, product-next, product-all}
-use Rattle.sheet.specs.Sheet.{sheetOf}
-use lib.Ieee.{ofBits}
-use lib.ListN.{length}
-use borrow.Author.Needs.{needs}
-use native.Mathlib.Omega.{arith}
-use mathlib.Core.Path.{_≡_, _∙_}
 use Prim.Native.Nat.{_+_, _-_, _*_, _≤_, min}
+use mathlib.Core.Path.{_≡_, _∙_}
+use native.Mathlib.Omega.{arith}
+use borrow.Author.Needs.{needs}
+use lib.ListN.{length}
+use lib.Ieee.{ofBits}
+use Rattle.sheet.specs.Sheet.{sheetOf}
+use Rattle.predicate.proofs.PredicateLaws.{estimatesBelow, of-kind, of-nary, of-other, operand-below, operand-not-below, ProductRest, product-first, product-next, product-all}
 use Prim.Native.Nat.{ℕ, _<_}
 use borrow.Fn.Kinds.{In}
 use borrow.Fn.PlainCycle.{Measures, is, falls, and}
@@ -19,18 +19,26 @@ use Rattle.predicate.proofs.+filter_selectivity_for_predicate+operand_e
 use Rattle.predicate.proofs.operand_product.Reads as operand-product
 use Rattle.predicate.proofs.operand_product.Kinds as operand-product-kinds
 use Rattle.predicate.proofs.+filter_selectivity_for_predicate+operand_estimate+operand_product.Lts-operand_product as operand-product-lts
-use Rattle.comparison.proofs.binary.binary_selectivity.Reads as binary-selectivity-reads
-use Rattle.comparison.proofs.unary.unary_selectivity.Reads as unary-selectivity-reads
-use Rattle.lookup.proofs.numbers.expression_of.Reads as expression-of-reads
+use Rattle.le.proofs.reads.byte_at.Reads as byte-at-reads
+use Rattle.le.proofs.reads.u16_at.Reads as u16-at-reads
+use Rattle.lookup.proofs.numbers.expression_kind.Reads as expression-kind-reads
+use Rattle.lookup.proofs.numbers.expression_place.Reads as expression-place-reads
 use Rattle.lookup.proofs.numbers.operand_in.Reads as operand-in-reads
 use Rattle.lookup.proofs.numbers.run_end.Reads as run-end-reads
+use Rattle.predicate.proofs.leaves.binary_at.Reads as binary-at-reads
 use Rattle.predicate.proofs.leaves.like_estimate.Reads as like-estimate-reads
-use Rattle.predicate.proofs.leaves.literal_estimate.Reads as literal-estimate-reads
+use Rattle.predicate.proofs.leaves.literal_at.Reads as literal-at-reads
 use Rattle.predicate.proofs.leaves.nary_estimate.Reads as nary-estimate-reads
 use Rattle.predicate.proofs.leaves.operand_factor.Reads as operand-factor-reads
+use Rattle.predicate.proofs.leaves.unary_at.Reads as unary-at-reads
 use Rattle.range.proofs.selectivity.default_estimate.Reads as default-estimate-reads
-use Rattle.predicate.proofs.+filter_selectivity_for_predicate+operand_estimate+operand_product.{statement}
-use Rattle.predicate.proofs.+filter_selectivity_for_predicate+operand_estimate+operand_product.Tie.{close}
+use Rattle.records.proofs.expressions.nary_op.Reads as nary-op-reads
+use Rattle.predicate.proofs.+filter_selectivity_for_predicate+operand_estimate+operand_product.{
+  statement,
+}
+use Rattle.predicate.proofs.+filter_selectivity_for_predicate+operand_estimate+operand_product.Tie.{
+  close,
+}
 
 abbrev μ-filter-selectivity-for-predicate : Measures 1 filter-selectivity-for-predicate-kinds.ps ℕ
 μ-filter-selectivity-for-predicate κs a = 3 * a .1 .1 .0 + 2
@@ -89,18 +97,26 @@ operand-product-below t =
     (falls 1 operand-product-kinds.ps _<_ μ-operand-product t)
     operand-product.Pre
 
-filter-selectivity-for-predicate-expression-of-requires :
-    (t : ℕ) → filter-selectivity-for-predicate-lts.Need-expression-of-requires (
-      expression-of-reads.Asked,
-      expression-of-reads.Learnt,
-      literal-estimate-reads.Asked,
-      literal-estimate-reads.Learnt,
+filter-selectivity-for-predicate-expression-kind-requires :
+    (t : ℕ) → filter-selectivity-for-predicate-lts.Need-expression-kind-requires (
+      expression-kind-reads.Asked,
+      expression-kind-reads.Learnt,
+      expression-place-reads.Asked,
+      expression-place-reads.Learnt,
+      literal-at-reads.Asked,
+      literal-at-reads.Learnt,
       default-estimate-reads.Asked,
       default-estimate-reads.Learnt,
-      unary-selectivity-reads.Asked,
-      unary-selectivity-reads.Learnt,
-      binary-selectivity-reads.Asked,
-      binary-selectivity-reads.Learnt,
+      unary-at-reads.Asked,
+      unary-at-reads.Learnt,
+      binary-at-reads.Asked,
+      binary-at-reads.Learnt,
+      byte-at-reads.Asked,
+      byte-at-reads.Learnt,
+      nary-op-reads.Asked,
+      nary-op-reads.Learnt,
+      u16-at-reads.Asked,
+      u16-at-reads.Learnt,
       operand-product-below t,
       operand-product.Post,
       nary-estimate-reads.Asked,
@@ -108,20 +124,28 @@ filter-selectivity-for-predicate-expression-of-requires :
       like-estimate-reads.Asked,
       like-estimate-reads.Learnt,
     ) (filter-selectivity-for-predicate-at t) filter-selectivity-for-predicate.Post
-filter-selectivity-for-predicate-expression-of-requires t c κs = search needs
+filter-selectivity-for-predicate-expression-kind-requires t c κs = search needs
 
-filter-selectivity-for-predicate-enum-known-x :
-    (t : ℕ) → filter-selectivity-for-predicate-lts.Need-enum-known-x (
-      expression-of-reads.Asked,
-      expression-of-reads.Learnt,
-      literal-estimate-reads.Asked,
-      literal-estimate-reads.Learnt,
+filter-selectivity-for-predicate-expression-place-requires :
+    (t : ℕ) → filter-selectivity-for-predicate-lts.Need-expression-place-requires (
+      expression-kind-reads.Asked,
+      expression-kind-reads.Learnt,
+      expression-place-reads.Asked,
+      expression-place-reads.Learnt,
+      literal-at-reads.Asked,
+      literal-at-reads.Learnt,
       default-estimate-reads.Asked,
       default-estimate-reads.Learnt,
-      unary-selectivity-reads.Asked,
-      unary-selectivity-reads.Learnt,
-      binary-selectivity-reads.Asked,
-      binary-selectivity-reads.Learnt,
+      unary-at-reads.Asked,
+      unary-at-reads.Learnt,
+      binary-at-reads.Asked,
+      binary-at-reads.Learnt,
+      byte-at-reads.Asked,
+      byte-at-reads.Learnt,
+      nary-op-reads.Asked,
+      nary-op-reads.Learnt,
+      u16-at-reads.Asked,
+      u16-at-reads.Learnt,
       operand-product-below t,
       operand-product.Post,
       nary-estimate-reads.Asked,
@@ -129,20 +153,28 @@ filter-selectivity-for-predicate-enum-known-x :
       like-estimate-reads.Asked,
       like-estimate-reads.Learnt,
     ) (filter-selectivity-for-predicate-at t) filter-selectivity-for-predicate.Post
-filter-selectivity-for-predicate-enum-known-x t c = search needs
+filter-selectivity-for-predicate-expression-place-requires t c κs = search needs
 
-filter-selectivity-for-predicate-literal-estimate-requires :
-    (t : ℕ) → filter-selectivity-for-predicate-lts.Need-literal-estimate-requires (
-      expression-of-reads.Asked,
-      expression-of-reads.Learnt,
-      literal-estimate-reads.Asked,
-      literal-estimate-reads.Learnt,
+filter-selectivity-for-predicate-literal-at-requires :
+    (t : ℕ) → filter-selectivity-for-predicate-lts.Need-literal-at-requires (
+      expression-kind-reads.Asked,
+      expression-kind-reads.Learnt,
+      expression-place-reads.Asked,
+      expression-place-reads.Learnt,
+      literal-at-reads.Asked,
+      literal-at-reads.Learnt,
       default-estimate-reads.Asked,
       default-estimate-reads.Learnt,
-      unary-selectivity-reads.Asked,
-      unary-selectivity-reads.Learnt,
-      binary-selectivity-reads.Asked,
-      binary-selectivity-reads.Learnt,
+      unary-at-reads.Asked,
+      unary-at-reads.Learnt,
+      binary-at-reads.Asked,
+      binary-at-reads.Learnt,
+      byte-at-reads.Asked,
+      byte-at-reads.Learnt,
+      nary-op-reads.Asked,
+      nary-op-reads.Learnt,
+      u16-at-reads.Asked,
+      u16-at-reads.Learnt,
       operand-product-below t,
       operand-product.Post,
       nary-estimate-reads.Asked,
@@ -150,41 +182,28 @@ filter-selectivity-for-predicate-literal-estimate-requires :
       like-estimate-reads.Asked,
       like-estimate-reads.Learnt,
     ) (filter-selectivity-for-predicate-at t) filter-selectivity-for-predicate.Post
-filter-selectivity-for-predicate-literal-estimate-requires t c κs = search needs
-
-filter-selectivity-for-predicate-enum-told :
-    (t : ℕ) → filter-selectivity-for-predicate-lts.Need-enum-told (
-      expression-of-reads.Asked,
-      expression-of-reads.Learnt,
-      literal-estimate-reads.Asked,
-      literal-estimate-reads.Learnt,
-      default-estimate-reads.Asked,
-      default-estimate-reads.Learnt,
-      unary-selectivity-reads.Asked,
-      unary-selectivity-reads.Learnt,
-      binary-selectivity-reads.Asked,
-      binary-selectivity-reads.Learnt,
-      operand-product-below t,
-      operand-product.Post,
-      nary-estimate-reads.Asked,
-      nary-estimate-reads.Learnt,
-      like-estimate-reads.Asked,
-      like-estimate-reads.Learnt,
-    ) (filter-selectivity-for-predicate-at t) filter-selectivity-for-predicate.Post
-filter-selectivity-for-predicate-enum-told t c = search needs
+filter-selectivity-for-predicate-literal-at-requires t c κs = search needs
 
 filter-selectivity-for-predicate-default-estimate-requires :
     (t : ℕ) → filter-selectivity-for-predicate-lts.Need-default-estimate-requires (
-      expression-of-reads.Asked,
-      expression-of-reads.Learnt,
-      literal-estimate-reads.Asked,
-      literal-estimate-reads.Learnt,
+      expression-kind-reads.Asked,
+      expression-kind-reads.Learnt,
+      expression-place-reads.Asked,
+      expression-place-reads.Learnt,
+      literal-at-reads.Asked,
+      literal-at-reads.Learnt,
       default-estimate-reads.Asked,
       default-estimate-reads.Learnt,
-      unary-selectivity-reads.Asked,
-      unary-selectivity-reads.Learnt,
-      binary-selectivity-reads.Asked,
-      binary-selectivity-reads.Learnt,
+      unary-at-reads.Asked,
+      unary-at-reads.Learnt,
+      binary-at-reads.Asked,
+      binary-at-reads.Learnt,
+      byte-at-reads.Asked,
+      byte-at-reads.Learnt,
+      nary-op-reads.Asked,
+      nary-op-reads.Learnt,
+      u16-at-reads.Asked,
+      u16-at-reads.Learnt,
       operand-product-below t,
       operand-product.Post,
       nary-estimate-reads.Asked,
@@ -194,18 +213,26 @@ filter-selectivity-for-predicate-default-estimate-requires :
     ) (filter-selectivity-for-predicate-at t) filter-selectivity-for-predicate.Post
 filter-selectivity-for-predicate-default-estimate-requires t c κs = search needs
 
-filter-selectivity-for-predicate-enum-known-x-2 :
-    (t : ℕ) → filter-selectivity-for-predicate-lts.Need-enum-known-x-2 (
-      expression-of-reads.Asked,
-      expression-of-reads.Learnt,
-      literal-estimate-reads.Asked,
-      literal-estimate-reads.Learnt,
+filter-selectivity-for-predicate-unary-at-requires :
+    (t : ℕ) → filter-selectivity-for-predicate-lts.Need-unary-at-requires (
+      expression-kind-reads.Asked,
+      expression-kind-reads.Learnt,
+      expression-place-reads.Asked,
+      expression-place-reads.Learnt,
+      literal-at-reads.Asked,
+      literal-at-reads.Learnt,
       default-estimate-reads.Asked,
       default-estimate-reads.Learnt,
-      unary-selectivity-reads.Asked,
-      unary-selectivity-reads.Learnt,
-      binary-selectivity-reads.Asked,
-      binary-selectivity-reads.Learnt,
+      unary-at-reads.Asked,
+      unary-at-reads.Learnt,
+      binary-at-reads.Asked,
+      binary-at-reads.Learnt,
+      byte-at-reads.Asked,
+      byte-at-reads.Learnt,
+      nary-op-reads.Asked,
+      nary-op-reads.Learnt,
+      u16-at-reads.Asked,
+      u16-at-reads.Learnt,
       operand-product-below t,
       operand-product.Post,
       nary-estimate-reads.Asked,
@@ -213,20 +240,28 @@ filter-selectivity-for-predicate-enum-known-x-2 :
       like-estimate-reads.Asked,
       like-estimate-reads.Learnt,
     ) (filter-selectivity-for-predicate-at t) filter-selectivity-for-predicate.Post
-filter-selectivity-for-predicate-enum-known-x-2 t c = search needs
+filter-selectivity-for-predicate-unary-at-requires t c κs = search needs
 
-filter-selectivity-for-predicate-unary-selectivity-requires :
-    (t : ℕ) → filter-selectivity-for-predicate-lts.Need-unary-selectivity-requires (
-      expression-of-reads.Asked,
-      expression-of-reads.Learnt,
-      literal-estimate-reads.Asked,
-      literal-estimate-reads.Learnt,
+filter-selectivity-for-predicate-binary-at-requires :
+    (t : ℕ) → filter-selectivity-for-predicate-lts.Need-binary-at-requires (
+      expression-kind-reads.Asked,
+      expression-kind-reads.Learnt,
+      expression-place-reads.Asked,
+      expression-place-reads.Learnt,
+      literal-at-reads.Asked,
+      literal-at-reads.Learnt,
       default-estimate-reads.Asked,
       default-estimate-reads.Learnt,
-      unary-selectivity-reads.Asked,
-      unary-selectivity-reads.Learnt,
-      binary-selectivity-reads.Asked,
-      binary-selectivity-reads.Learnt,
+      unary-at-reads.Asked,
+      unary-at-reads.Learnt,
+      binary-at-reads.Asked,
+      binary-at-reads.Learnt,
+      byte-at-reads.Asked,
+      byte-at-reads.Learnt,
+      nary-op-reads.Asked,
+      nary-op-reads.Learnt,
+      u16-at-reads.Asked,
+      u16-at-reads.Learnt,
       operand-product-below t,
       operand-product.Post,
       nary-estimate-reads.Asked,
@@ -234,20 +269,28 @@ filter-selectivity-for-predicate-unary-selectivity-requires :
       like-estimate-reads.Asked,
       like-estimate-reads.Learnt,
     ) (filter-selectivity-for-predicate-at t) filter-selectivity-for-predicate.Post
-filter-selectivity-for-predicate-unary-selectivity-requires t c κs = search needs
+filter-selectivity-for-predicate-binary-at-requires t c κs = search needs
 
-filter-selectivity-for-predicate-enum-known-x-3 :
-    (t : ℕ) → filter-selectivity-for-predicate-lts.Need-enum-known-x-3 (
-      expression-of-reads.Asked,
-      expression-of-reads.Learnt,
-      literal-estimate-reads.Asked,
-      literal-estimate-reads.Learnt,
+filter-selectivity-for-predicate-add-byte-at :
+    (t : ℕ) → filter-selectivity-for-predicate-lts.Need-add-byte-at (
+      expression-kind-reads.Asked,
+      expression-kind-reads.Learnt,
+      expression-place-reads.Asked,
+      expression-place-reads.Learnt,
+      literal-at-reads.Asked,
+      literal-at-reads.Learnt,
       default-estimate-reads.Asked,
       default-estimate-reads.Learnt,
-      unary-selectivity-reads.Asked,
-      unary-selectivity-reads.Learnt,
-      binary-selectivity-reads.Asked,
-      binary-selectivity-reads.Learnt,
+      unary-at-reads.Asked,
+      unary-at-reads.Learnt,
+      binary-at-reads.Asked,
+      binary-at-reads.Learnt,
+      byte-at-reads.Asked,
+      byte-at-reads.Learnt,
+      nary-op-reads.Asked,
+      nary-op-reads.Learnt,
+      u16-at-reads.Asked,
+      u16-at-reads.Learnt,
       operand-product-below t,
       operand-product.Post,
       nary-estimate-reads.Asked,
@@ -255,20 +298,28 @@ filter-selectivity-for-predicate-enum-known-x-3 :
       like-estimate-reads.Asked,
       like-estimate-reads.Learnt,
     ) (filter-selectivity-for-predicate-at t) filter-selectivity-for-predicate.Post
-filter-selectivity-for-predicate-enum-known-x-3 t c = search needs
+filter-selectivity-for-predicate-add-byte-at t c = search needs
 
-filter-selectivity-for-predicate-binary-selectivity-requires :
-    (t : ℕ) → filter-selectivity-for-predicate-lts.Need-binary-selectivity-requires (
-      expression-of-reads.Asked,
-      expression-of-reads.Learnt,
-      literal-estimate-reads.Asked,
-      literal-estimate-reads.Learnt,
+filter-selectivity-for-predicate-byte-at-requires :
+    (t : ℕ) → filter-selectivity-for-predicate-lts.Need-byte-at-requires (
+      expression-kind-reads.Asked,
+      expression-kind-reads.Learnt,
+      expression-place-reads.Asked,
+      expression-place-reads.Learnt,
+      literal-at-reads.Asked,
+      literal-at-reads.Learnt,
       default-estimate-reads.Asked,
       default-estimate-reads.Learnt,
-      unary-selectivity-reads.Asked,
-      unary-selectivity-reads.Learnt,
-      binary-selectivity-reads.Asked,
-      binary-selectivity-reads.Learnt,
+      unary-at-reads.Asked,
+      unary-at-reads.Learnt,
+      binary-at-reads.Asked,
+      binary-at-reads.Learnt,
+      byte-at-reads.Asked,
+      byte-at-reads.Learnt,
+      nary-op-reads.Asked,
+      nary-op-reads.Learnt,
+      u16-at-reads.Asked,
+      u16-at-reads.Learnt,
       operand-product-below t,
       operand-product.Post,
       nary-estimate-reads.Asked,
@@ -276,20 +327,28 @@ filter-selectivity-for-predicate-binary-selectivity-requires :
       like-estimate-reads.Asked,
       like-estimate-reads.Learnt,
     ) (filter-selectivity-for-predicate-at t) filter-selectivity-for-predicate.Post
-filter-selectivity-for-predicate-binary-selectivity-requires t c κs = search needs
+filter-selectivity-for-predicate-byte-at-requires t c κs = search needs
 
-filter-selectivity-for-predicate-enum-known-x-4 :
-    (t : ℕ) → filter-selectivity-for-predicate-lts.Need-enum-known-x-4 (
-      expression-of-reads.Asked,
-      expression-of-reads.Learnt,
-      literal-estimate-reads.Asked,
-      literal-estimate-reads.Learnt,
+filter-selectivity-for-predicate-nary-op-requires :
+    (t : ℕ) → filter-selectivity-for-predicate-lts.Need-nary-op-requires (
+      expression-kind-reads.Asked,
+      expression-kind-reads.Learnt,
+      expression-place-reads.Asked,
+      expression-place-reads.Learnt,
+      literal-at-reads.Asked,
+      literal-at-reads.Learnt,
       default-estimate-reads.Asked,
       default-estimate-reads.Learnt,
-      unary-selectivity-reads.Asked,
-      unary-selectivity-reads.Learnt,
-      binary-selectivity-reads.Asked,
-      binary-selectivity-reads.Learnt,
+      unary-at-reads.Asked,
+      unary-at-reads.Learnt,
+      binary-at-reads.Asked,
+      binary-at-reads.Learnt,
+      byte-at-reads.Asked,
+      byte-at-reads.Learnt,
+      nary-op-reads.Asked,
+      nary-op-reads.Learnt,
+      u16-at-reads.Asked,
+      u16-at-reads.Learnt,
       operand-product-below t,
       operand-product.Post,
       nary-estimate-reads.Asked,
@@ -297,20 +356,144 @@ filter-selectivity-for-predicate-enum-known-x-4 :
       like-estimate-reads.Asked,
       like-estimate-reads.Learnt,
     ) (filter-selectivity-for-predicate-at t) filter-selectivity-for-predicate.Post
-filter-selectivity-for-predicate-enum-known-x-4 t c = search needs
+filter-selectivity-for-predicate-nary-op-requires t c κs = search needs
+
+filter-selectivity-for-predicate-add-u16-at :
+    (t : ℕ) → filter-selectivity-for-predicate-lts.Need-add-u16-at (
+      expression-kind-reads.Asked,
+      expression-kind-reads.Learnt,
+      expression-place-reads.Asked,
+      expression-place-reads.Learnt,
+      literal-at-reads.Asked,
+      literal-at-reads.Learnt,
+      default-estimate-reads.Asked,
+      default-estimate-reads.Learnt,
+      unary-at-reads.Asked,
+      unary-at-reads.Learnt,
+      binary-at-reads.Asked,
+      binary-at-reads.Learnt,
+      byte-at-reads.Asked,
+      byte-at-reads.Learnt,
+      nary-op-reads.Asked,
+      nary-op-reads.Learnt,
+      u16-at-reads.Asked,
+      u16-at-reads.Learnt,
+      operand-product-below t,
+      operand-product.Post,
+      nary-estimate-reads.Asked,
+      nary-estimate-reads.Learnt,
+      like-estimate-reads.Asked,
+      like-estimate-reads.Learnt,
+    ) (filter-selectivity-for-predicate-at t) filter-selectivity-for-predicate.Post
+filter-selectivity-for-predicate-add-u16-at t c = search needs
+
+filter-selectivity-for-predicate-u16-at-requires :
+    (t : ℕ) → filter-selectivity-for-predicate-lts.Need-u16-at-requires (
+      expression-kind-reads.Asked,
+      expression-kind-reads.Learnt,
+      expression-place-reads.Asked,
+      expression-place-reads.Learnt,
+      literal-at-reads.Asked,
+      literal-at-reads.Learnt,
+      default-estimate-reads.Asked,
+      default-estimate-reads.Learnt,
+      unary-at-reads.Asked,
+      unary-at-reads.Learnt,
+      binary-at-reads.Asked,
+      binary-at-reads.Learnt,
+      byte-at-reads.Asked,
+      byte-at-reads.Learnt,
+      nary-op-reads.Asked,
+      nary-op-reads.Learnt,
+      u16-at-reads.Asked,
+      u16-at-reads.Learnt,
+      operand-product-below t,
+      operand-product.Post,
+      nary-estimate-reads.Asked,
+      nary-estimate-reads.Learnt,
+      like-estimate-reads.Asked,
+      like-estimate-reads.Learnt,
+    ) (filter-selectivity-for-predicate-at t) filter-selectivity-for-predicate.Post
+filter-selectivity-for-predicate-u16-at-requires t c κs = search needs
+
+filter-selectivity-for-predicate-add-u16-at-2 :
+    (t : ℕ) → filter-selectivity-for-predicate-lts.Need-add-u16-at-2 (
+      expression-kind-reads.Asked,
+      expression-kind-reads.Learnt,
+      expression-place-reads.Asked,
+      expression-place-reads.Learnt,
+      literal-at-reads.Asked,
+      literal-at-reads.Learnt,
+      default-estimate-reads.Asked,
+      default-estimate-reads.Learnt,
+      unary-at-reads.Asked,
+      unary-at-reads.Learnt,
+      binary-at-reads.Asked,
+      binary-at-reads.Learnt,
+      byte-at-reads.Asked,
+      byte-at-reads.Learnt,
+      nary-op-reads.Asked,
+      nary-op-reads.Learnt,
+      u16-at-reads.Asked,
+      u16-at-reads.Learnt,
+      operand-product-below t,
+      operand-product.Post,
+      nary-estimate-reads.Asked,
+      nary-estimate-reads.Learnt,
+      like-estimate-reads.Asked,
+      like-estimate-reads.Learnt,
+    ) (filter-selectivity-for-predicate-at t) filter-selectivity-for-predicate.Post
+filter-selectivity-for-predicate-add-u16-at-2 t c = search needs
+
+filter-selectivity-for-predicate-u16-at-requires-2 :
+    (t : ℕ) → filter-selectivity-for-predicate-lts.Need-u16-at-requires-2 (
+      expression-kind-reads.Asked,
+      expression-kind-reads.Learnt,
+      expression-place-reads.Asked,
+      expression-place-reads.Learnt,
+      literal-at-reads.Asked,
+      literal-at-reads.Learnt,
+      default-estimate-reads.Asked,
+      default-estimate-reads.Learnt,
+      unary-at-reads.Asked,
+      unary-at-reads.Learnt,
+      binary-at-reads.Asked,
+      binary-at-reads.Learnt,
+      byte-at-reads.Asked,
+      byte-at-reads.Learnt,
+      nary-op-reads.Asked,
+      nary-op-reads.Learnt,
+      u16-at-reads.Asked,
+      u16-at-reads.Learnt,
+      operand-product-below t,
+      operand-product.Post,
+      nary-estimate-reads.Asked,
+      nary-estimate-reads.Learnt,
+      like-estimate-reads.Asked,
+      like-estimate-reads.Learnt,
+    ) (filter-selectivity-for-predicate-at t) filter-selectivity-for-predicate.Post
+filter-selectivity-for-predicate-u16-at-requires-2 t c κs = search needs
 
 filter-selectivity-for-predicate-operand-product-requires :
     (t : ℕ) → filter-selectivity-for-predicate-lts.Need-operand-product-requires (
-      expression-of-reads.Asked,
-      expression-of-reads.Learnt,
-      literal-estimate-reads.Asked,
-      literal-estimate-reads.Learnt,
+      expression-kind-reads.Asked,
+      expression-kind-reads.Learnt,
+      expression-place-reads.Asked,
+      expression-place-reads.Learnt,
+      literal-at-reads.Asked,
+      literal-at-reads.Learnt,
       default-estimate-reads.Asked,
       default-estimate-reads.Learnt,
-      unary-selectivity-reads.Asked,
-      unary-selectivity-reads.Learnt,
-      binary-selectivity-reads.Asked,
-      binary-selectivity-reads.Learnt,
+      unary-at-reads.Asked,
+      unary-at-reads.Learnt,
+      binary-at-reads.Asked,
+      binary-at-reads.Learnt,
+      byte-at-reads.Asked,
+      byte-at-reads.Learnt,
+      nary-op-reads.Asked,
+      nary-op-reads.Learnt,
+      u16-at-reads.Asked,
+      u16-at-reads.Learnt,
       operand-product-below t,
       operand-product.Post,
       nary-estimate-reads.Asked,
@@ -322,16 +505,24 @@ filter-selectivity-for-predicate-operand-product-requires t c κs = omega arith
 
 filter-selectivity-for-predicate-nary-estimate-requires :
     (t : ℕ) → filter-selectivity-for-predicate-lts.Need-nary-estimate-requires (
-      expression-of-reads.Asked,
-      expression-of-reads.Learnt,
-      literal-estimate-reads.Asked,
-      literal-estimate-reads.Learnt,
+      expression-kind-reads.Asked,
+      expression-kind-reads.Learnt,
+      expression-place-reads.Asked,
+      expression-place-reads.Learnt,
+      literal-at-reads.Asked,
+      literal-at-reads.Learnt,
       default-estimate-reads.Asked,
       default-estimate-reads.Learnt,
-      unary-selectivity-reads.Asked,
-      unary-selectivity-reads.Learnt,
-      binary-selectivity-reads.Asked,
-      binary-selectivity-reads.Learnt,
+      unary-at-reads.Asked,
+      unary-at-reads.Learnt,
+      binary-at-reads.Asked,
+      binary-at-reads.Learnt,
+      byte-at-reads.Asked,
+      byte-at-reads.Learnt,
+      nary-op-reads.Asked,
+      nary-op-reads.Learnt,
+      u16-at-reads.Asked,
+      u16-at-reads.Learnt,
       operand-product-below t,
       operand-product.Post,
       nary-estimate-reads.Asked,
@@ -341,39 +532,26 @@ filter-selectivity-for-predicate-nary-estimate-requires :
     ) (filter-selectivity-for-predicate-at t) filter-selectivity-for-predicate.Post
 filter-selectivity-for-predicate-nary-estimate-requires t c κs = search needs
 
-filter-selectivity-for-predicate-enum-told-2 :
-    (t : ℕ) → filter-selectivity-for-predicate-lts.Need-enum-told-2 (
-      expression-of-reads.Asked,
-      expression-of-reads.Learnt,
-      literal-estimate-reads.Asked,
-      literal-estimate-reads.Learnt,
-      default-estimate-reads.Asked,
-      default-estimate-reads.Learnt,
-      unary-selectivity-reads.Asked,
-      unary-selectivity-reads.Learnt,
-      binary-selectivity-reads.Asked,
-      binary-selectivity-reads.Learnt,
-      operand-product-below t,
-      operand-product.Post,
-      nary-estimate-reads.Asked,
-      nary-estimate-reads.Learnt,
-      like-estimate-reads.Asked,
-      like-estimate-reads.Learnt,
-    ) (filter-selectivity-for-predicate-at t) filter-selectivity-for-predicate.Post
-filter-selectivity-for-predicate-enum-told-2 t c = search needs
-
 filter-selectivity-for-predicate-like-estimate-requires :
     (t : ℕ) → filter-selectivity-for-predicate-lts.Need-like-estimate-requires (
-      expression-of-reads.Asked,
-      expression-of-reads.Learnt,
-      literal-estimate-reads.Asked,
-      literal-estimate-reads.Learnt,
+      expression-kind-reads.Asked,
+      expression-kind-reads.Learnt,
+      expression-place-reads.Asked,
+      expression-place-reads.Learnt,
+      literal-at-reads.Asked,
+      literal-at-reads.Learnt,
       default-estimate-reads.Asked,
       default-estimate-reads.Learnt,
-      unary-selectivity-reads.Asked,
-      unary-selectivity-reads.Learnt,
-      binary-selectivity-reads.Asked,
-      binary-selectivity-reads.Learnt,
+      unary-at-reads.Asked,
+      unary-at-reads.Learnt,
+      binary-at-reads.Asked,
+      binary-at-reads.Learnt,
+      byte-at-reads.Asked,
+      byte-at-reads.Learnt,
+      nary-op-reads.Asked,
+      nary-op-reads.Learnt,
+      u16-at-reads.Asked,
+      u16-at-reads.Learnt,
       operand-product-below t,
       operand-product.Post,
       nary-estimate-reads.Asked,
@@ -383,39 +561,26 @@ filter-selectivity-for-predicate-like-estimate-requires :
     ) (filter-selectivity-for-predicate-at t) filter-selectivity-for-predicate.Post
 filter-selectivity-for-predicate-like-estimate-requires t c κs = search needs
 
-filter-selectivity-for-predicate-enum-told-3 :
-    (t : ℕ) → filter-selectivity-for-predicate-lts.Need-enum-told-3 (
-      expression-of-reads.Asked,
-      expression-of-reads.Learnt,
-      literal-estimate-reads.Asked,
-      literal-estimate-reads.Learnt,
-      default-estimate-reads.Asked,
-      default-estimate-reads.Learnt,
-      unary-selectivity-reads.Asked,
-      unary-selectivity-reads.Learnt,
-      binary-selectivity-reads.Asked,
-      binary-selectivity-reads.Learnt,
-      operand-product-below t,
-      operand-product.Post,
-      nary-estimate-reads.Asked,
-      nary-estimate-reads.Learnt,
-      like-estimate-reads.Asked,
-      like-estimate-reads.Learnt,
-    ) (filter-selectivity-for-predicate-at t) filter-selectivity-for-predicate.Post
-filter-selectivity-for-predicate-enum-told-3 t c = search needs
-
 filter-selectivity-for-predicate-default-estimate-requires-2 :
     (t : ℕ) → filter-selectivity-for-predicate-lts.Need-default-estimate-requires-2 (
-      expression-of-reads.Asked,
-      expression-of-reads.Learnt,
-      literal-estimate-reads.Asked,
-      literal-estimate-reads.Learnt,
+      expression-kind-reads.Asked,
+      expression-kind-reads.Learnt,
+      expression-place-reads.Asked,
+      expression-place-reads.Learnt,
+      literal-at-reads.Asked,
+      literal-at-reads.Learnt,
       default-estimate-reads.Asked,
       default-estimate-reads.Learnt,
-      unary-selectivity-reads.Asked,
-      unary-selectivity-reads.Learnt,
-      binary-selectivity-reads.Asked,
-      binary-selectivity-reads.Learnt,
+      unary-at-reads.Asked,
+      unary-at-reads.Learnt,
+      binary-at-reads.Asked,
+      binary-at-reads.Learnt,
+      byte-at-reads.Asked,
+      byte-at-reads.Learnt,
+      nary-op-reads.Asked,
+      nary-op-reads.Learnt,
+      u16-at-reads.Asked,
+      u16-at-reads.Learnt,
       operand-product-below t,
       operand-product.Post,
       nary-estimate-reads.Asked,
@@ -427,16 +592,24 @@ filter-selectivity-for-predicate-default-estimate-requires-2 t c κs = search ne
 
 filter-selectivity-for-predicate-returns :
     (t : ℕ) → filter-selectivity-for-predicate-lts.Need-returns (
-      expression-of-reads.Asked,
-      expression-of-reads.Learnt,
-      literal-estimate-reads.Asked,
-      literal-estimate-reads.Learnt,
+      expression-kind-reads.Asked,
+      expression-kind-reads.Learnt,
+      expression-place-reads.Asked,
+      expression-place-reads.Learnt,
+      literal-at-reads.Asked,
+      literal-at-reads.Learnt,
       default-estimate-reads.Asked,
       default-estimate-reads.Learnt,
-      unary-selectivity-reads.Asked,
-      unary-selectivity-reads.Learnt,
-      binary-selectivity-reads.Asked,
-      binary-selectivity-reads.Learnt,
+      unary-at-reads.Asked,
+      unary-at-reads.Learnt,
+      binary-at-reads.Asked,
+      binary-at-reads.Learnt,
+      byte-at-reads.Asked,
+      byte-at-reads.Learnt,
+      nary-op-reads.Asked,
+      nary-op-reads.Learnt,
+      u16-at-reads.Asked,
+      u16-at-reads.Learnt,
       operand-product-below t,
       operand-product.Post,
       nary-estimate-reads.Asked,
@@ -444,20 +617,28 @@ filter-selectivity-for-predicate-returns :
       like-estimate-reads.Asked,
       like-estimate-reads.Learnt,
     ) (filter-selectivity-for-predicate-at t) filter-selectivity-for-predicate.Post
-filter-selectivity-for-predicate-returns t c = c .literal-estimate .ensures ∙ of-expression (sheetOf (c .before .before .before .before .before .before .args .s .now) (c .before .before .before .before .before .before .args .q)) (c .before .before .before .before .before .before .args .e) _ _ (c .before .before .before .before .expression-of .ensures) (c .before .before .x .given .1)
+filter-selectivity-for-predicate-returns t c = let k = c .before .before .before in let args = k .before .before .args in c .literal-at .ensures ∙ of-kind (args .s .now) (args .q) (args .e) (k .expression-kind .result) (c .before .before .expression-place .result) (k .expression-kind .ensures) (c .before .before .expression-place .ensures .0) 0 (c .before .match .keys1)
 
 filter-selectivity-for-predicate-returns-2 :
     (t : ℕ) → filter-selectivity-for-predicate-lts.Need-returns-2 (
-      expression-of-reads.Asked,
-      expression-of-reads.Learnt,
-      literal-estimate-reads.Asked,
-      literal-estimate-reads.Learnt,
+      expression-kind-reads.Asked,
+      expression-kind-reads.Learnt,
+      expression-place-reads.Asked,
+      expression-place-reads.Learnt,
+      literal-at-reads.Asked,
+      literal-at-reads.Learnt,
       default-estimate-reads.Asked,
       default-estimate-reads.Learnt,
-      unary-selectivity-reads.Asked,
-      unary-selectivity-reads.Learnt,
-      binary-selectivity-reads.Asked,
-      binary-selectivity-reads.Learnt,
+      unary-at-reads.Asked,
+      unary-at-reads.Learnt,
+      binary-at-reads.Asked,
+      binary-at-reads.Learnt,
+      byte-at-reads.Asked,
+      byte-at-reads.Learnt,
+      nary-op-reads.Asked,
+      nary-op-reads.Learnt,
+      u16-at-reads.Asked,
+      u16-at-reads.Learnt,
       operand-product-below t,
       operand-product.Post,
       nary-estimate-reads.Asked,
@@ -465,20 +646,28 @@ filter-selectivity-for-predicate-returns-2 :
       like-estimate-reads.Asked,
       like-estimate-reads.Learnt,
     ) (filter-selectivity-for-predicate-at t) filter-selectivity-for-predicate.Post
-filter-selectivity-for-predicate-returns-2 t c = c .default-estimate .ensures ∙ of-expression (sheetOf (c .before .before .before .before .before .args .s .now) (c .before .before .before .before .before .args .q)) (c .before .before .before .before .before .args .e) _ _ (c .before .before .before .expression-of .ensures) (c .before .enum-told .given .1)
+filter-selectivity-for-predicate-returns-2 t c = let k = c .before .before .before in let args = k .before .before .args in c .default-estimate .ensures ∙ of-kind (args .s .now) (args .q) (args .e) (k .expression-kind .result) (c .before .before .expression-place .result) (k .expression-kind .ensures) (c .before .before .expression-place .ensures .0) 1 (c .before .match .keys2)
 
 filter-selectivity-for-predicate-returns-3 :
     (t : ℕ) → filter-selectivity-for-predicate-lts.Need-returns-3 (
-      expression-of-reads.Asked,
-      expression-of-reads.Learnt,
-      literal-estimate-reads.Asked,
-      literal-estimate-reads.Learnt,
+      expression-kind-reads.Asked,
+      expression-kind-reads.Learnt,
+      expression-place-reads.Asked,
+      expression-place-reads.Learnt,
+      literal-at-reads.Asked,
+      literal-at-reads.Learnt,
       default-estimate-reads.Asked,
       default-estimate-reads.Learnt,
-      unary-selectivity-reads.Asked,
-      unary-selectivity-reads.Learnt,
-      binary-selectivity-reads.Asked,
-      binary-selectivity-reads.Learnt,
+      unary-at-reads.Asked,
+      unary-at-reads.Learnt,
+      binary-at-reads.Asked,
+      binary-at-reads.Learnt,
+      byte-at-reads.Asked,
+      byte-at-reads.Learnt,
+      nary-op-reads.Asked,
+      nary-op-reads.Learnt,
+      u16-at-reads.Asked,
+      u16-at-reads.Learnt,
       operand-product-below t,
       operand-product.Post,
       nary-estimate-reads.Asked,
@@ -486,20 +675,28 @@ filter-selectivity-for-predicate-returns-3 :
       like-estimate-reads.Asked,
       like-estimate-reads.Learnt,
     ) (filter-selectivity-for-predicate-at t) filter-selectivity-for-predicate.Post
-filter-selectivity-for-predicate-returns-3 t c = c .unary-selectivity .ensures ∙ of-expression (sheetOf (c .before .before .before .before .before .before .args .s .now) (c .before .before .before .before .before .before .args .q)) (c .before .before .before .before .before .before .args .e) _ _ (c .before .before .before .before .expression-of .ensures) (c .before .before .x2 .given .1)
+filter-selectivity-for-predicate-returns-3 t c = let k = c .before .before .before in let args = k .before .before .args in c .unary-at .ensures ∙ of-kind (args .s .now) (args .q) (args .e) (k .expression-kind .result) (c .before .before .expression-place .result) (k .expression-kind .ensures) (c .before .before .expression-place .ensures .0) 2 (c .before .match .keys3)
 
 filter-selectivity-for-predicate-returns-4 :
     (t : ℕ) → filter-selectivity-for-predicate-lts.Need-returns-4 (
-      expression-of-reads.Asked,
-      expression-of-reads.Learnt,
-      literal-estimate-reads.Asked,
-      literal-estimate-reads.Learnt,
+      expression-kind-reads.Asked,
+      expression-kind-reads.Learnt,
+      expression-place-reads.Asked,
+      expression-place-reads.Learnt,
+      literal-at-reads.Asked,
+      literal-at-reads.Learnt,
       default-estimate-reads.Asked,
       default-estimate-reads.Learnt,
-      unary-selectivity-reads.Asked,
-      unary-selectivity-reads.Learnt,
-      binary-selectivity-reads.Asked,
-      binary-selectivity-reads.Learnt,
+      unary-at-reads.Asked,
+      unary-at-reads.Learnt,
+      binary-at-reads.Asked,
+      binary-at-reads.Learnt,
+      byte-at-reads.Asked,
+      byte-at-reads.Learnt,
+      nary-op-reads.Asked,
+      nary-op-reads.Learnt,
+      u16-at-reads.Asked,
+      u16-at-reads.Learnt,
       operand-product-below t,
       operand-product.Post,
       nary-estimate-reads.Asked,
@@ -507,20 +704,28 @@ filter-selectivity-for-predicate-returns-4 :
       like-estimate-reads.Asked,
       like-estimate-reads.Learnt,
     ) (filter-selectivity-for-predicate-at t) filter-selectivity-for-predicate.Post
-filter-selectivity-for-predicate-returns-4 t c = c .binary-selectivity .ensures ∙ of-expression (sheetOf (c .before .before .before .before .before .before .args .s .now) (c .before .before .before .before .before .before .args .q)) (c .before .before .before .before .before .before .args .e) _ _ (c .before .before .before .before .expression-of .ensures) (c .before .before .x3 .given .1)
+filter-selectivity-for-predicate-returns-4 t c = let k = c .before .before .before in let args = k .before .before .args in c .binary-at .ensures ∙ of-kind (args .s .now) (args .q) (args .e) (k .expression-kind .result) (c .before .before .expression-place .result) (k .expression-kind .ensures) (c .before .before .expression-place .ensures .0) 3 (c .before .match .keys4)
 
 filter-selectivity-for-predicate-returns-5 :
     (t : ℕ) → filter-selectivity-for-predicate-lts.Need-returns-5 (
-      expression-of-reads.Asked,
-      expression-of-reads.Learnt,
-      literal-estimate-reads.Asked,
-      literal-estimate-reads.Learnt,
+      expression-kind-reads.Asked,
+      expression-kind-reads.Learnt,
+      expression-place-reads.Asked,
+      expression-place-reads.Learnt,
+      literal-at-reads.Asked,
+      literal-at-reads.Learnt,
       default-estimate-reads.Asked,
       default-estimate-reads.Learnt,
-      unary-selectivity-reads.Asked,
-      unary-selectivity-reads.Learnt,
-      binary-selectivity-reads.Asked,
-      binary-selectivity-reads.Learnt,
+      unary-at-reads.Asked,
+      unary-at-reads.Learnt,
+      binary-at-reads.Asked,
+      binary-at-reads.Learnt,
+      byte-at-reads.Asked,
+      byte-at-reads.Learnt,
+      nary-op-reads.Asked,
+      nary-op-reads.Learnt,
+      u16-at-reads.Asked,
+      u16-at-reads.Learnt,
       operand-product-below t,
       operand-product.Post,
       nary-estimate-reads.Asked,
@@ -528,20 +733,28 @@ filter-selectivity-for-predicate-returns-5 :
       like-estimate-reads.Asked,
       like-estimate-reads.Learnt,
     ) (filter-selectivity-for-predicate-at t) filter-selectivity-for-predicate.Post
-filter-selectivity-for-predicate-returns-5 t c = of-nary (sheetOf (c .before .before .before .before .before .before .before .args .s .now) (c .before .before .before .before .before .before .before .args .q)) (c .before .before .before .before .before .before .before .args .e) _ _ _ _ _ _ (c .nary-estimate .ensures) (c .before .operand-product .ensures) (c .before .before .before .before .before .expression-of .ensures) (c .before .before .before .x4 .given .1)
+filter-selectivity-for-predicate-returns-5 t c = let m = c .before .before .before .before .before .before in let k = m .before .before in let args = k .before .before .args in of-nary (args .s .now) (args .q) (args .e) (k .expression-kind .result) (m .before .expression-place .result) (k .expression-kind .ensures) (m .before .expression-place .ensures .0) _ _ _ _ _ _ (m .match .keys5) (c .nary-estimate .ensures) (c .before .operand-product .ensures) (c .before .before .before .before .nary-op .ensures) (c .before .before .before .before .before .byte-at .ensures) (c .before .before .before .u16-at .ensures) (c .before .before .u16-at2 .ensures)
 
 filter-selectivity-for-predicate-returns-6 :
     (t : ℕ) → filter-selectivity-for-predicate-lts.Need-returns-6 (
-      expression-of-reads.Asked,
-      expression-of-reads.Learnt,
-      literal-estimate-reads.Asked,
-      literal-estimate-reads.Learnt,
+      expression-kind-reads.Asked,
+      expression-kind-reads.Learnt,
+      expression-place-reads.Asked,
+      expression-place-reads.Learnt,
+      literal-at-reads.Asked,
+      literal-at-reads.Learnt,
       default-estimate-reads.Asked,
       default-estimate-reads.Learnt,
-      unary-selectivity-reads.Asked,
-      unary-selectivity-reads.Learnt,
-      binary-selectivity-reads.Asked,
-      binary-selectivity-reads.Learnt,
+      unary-at-reads.Asked,
+      unary-at-reads.Learnt,
+      binary-at-reads.Asked,
+      binary-at-reads.Learnt,
+      byte-at-reads.Asked,
+      byte-at-reads.Learnt,
+      nary-op-reads.Asked,
+      nary-op-reads.Learnt,
+      u16-at-reads.Asked,
+      u16-at-reads.Learnt,
       operand-product-below t,
       operand-product.Post,
       nary-estimate-reads.Asked,
@@ -549,20 +762,28 @@ filter-selectivity-for-predicate-returns-6 :
       like-estimate-reads.Asked,
       like-estimate-reads.Learnt,
     ) (filter-selectivity-for-predicate-at t) filter-selectivity-for-predicate.Post
-filter-selectivity-for-predicate-returns-6 t c = c .like-estimate .ensures ∙ of-expression (sheetOf (c .before .before .before .before .before .args .s .now) (c .before .before .before .before .before .args .q)) (c .before .before .before .before .before .args .e) _ _ (c .before .before .before .expression-of .ensures) (c .before .enum-told2 .given .1)
+filter-selectivity-for-predicate-returns-6 t c = let k = c .before .before .before in let args = k .before .before .args in c .like-estimate .ensures ∙ of-kind (args .s .now) (args .q) (args .e) (k .expression-kind .result) (c .before .before .expression-place .result) (k .expression-kind .ensures) (c .before .before .expression-place .ensures .0) 5 (c .before .match .keys6)
 
 filter-selectivity-for-predicate-returns-7 :
     (t : ℕ) → filter-selectivity-for-predicate-lts.Need-returns-7 (
-      expression-of-reads.Asked,
-      expression-of-reads.Learnt,
-      literal-estimate-reads.Asked,
-      literal-estimate-reads.Learnt,
+      expression-kind-reads.Asked,
+      expression-kind-reads.Learnt,
+      expression-place-reads.Asked,
+      expression-place-reads.Learnt,
+      literal-at-reads.Asked,
+      literal-at-reads.Learnt,
       default-estimate-reads.Asked,
       default-estimate-reads.Learnt,
-      unary-selectivity-reads.Asked,
-      unary-selectivity-reads.Learnt,
-      binary-selectivity-reads.Asked,
-      binary-selectivity-reads.Learnt,
+      unary-at-reads.Asked,
+      unary-at-reads.Learnt,
+      binary-at-reads.Asked,
+      binary-at-reads.Learnt,
+      byte-at-reads.Asked,
+      byte-at-reads.Learnt,
+      nary-op-reads.Asked,
+      nary-op-reads.Learnt,
+      u16-at-reads.Asked,
+      u16-at-reads.Learnt,
       operand-product-below t,
       operand-product.Post,
       nary-estimate-reads.Asked,
@@ -570,7 +791,7 @@ filter-selectivity-for-predicate-returns-7 :
       like-estimate-reads.Asked,
       like-estimate-reads.Learnt,
     ) (filter-selectivity-for-predicate-at t) filter-selectivity-for-predicate.Post
-filter-selectivity-for-predicate-returns-7 t c = c .default-estimate2 .ensures ∙ of-expression (sheetOf (c .before .before .before .before .before .args .s .now) (c .before .before .before .before .before .args .q)) (c .before .before .before .before .before .args .e) _ _ (c .before .before .before .expression-of .ensures) (c .before .enum-told3 .given .1)
+filter-selectivity-for-predicate-returns-7 t c = let k = c .before .before .before in let args = k .before .before .args in c .default-estimate2 .ensures ∙ of-other (args .s .now) (args .q) (args .e) (k .expression-kind .result) (c .before .before .expression-place .result) (k .expression-kind .ensures) (c .before .before .expression-place .ensures .0) (c .before .match .rest .0 .0 .0 .0 .0 .1) (c .before .match .rest .0 .0 .0 .0 .1) (c .before .match .rest .0 .0 .0 .1) (c .before .match .rest .0 .0 .1) (c .before .match .rest .0 .1) (c .before .match .rest .1)
 
 operand-estimate-filter-selectivity-for-predicate-requires :
     (t : ℕ) → operand-estimate-lts.Need-filter-selectivity-for-predicate-requires (
@@ -731,16 +952,24 @@ pub +filter-selectivity-for-predicate+operand-estimate+operand-product-spec :
     μ-operand-estimate
     μ-operand-product
     (λ t. filter-selectivity-for-predicate-lts.spec (
-      expression-of-reads.Asked,
-      expression-of-reads.Learnt,
-      literal-estimate-reads.Asked,
-      literal-estimate-reads.Learnt,
+      expression-kind-reads.Asked,
+      expression-kind-reads.Learnt,
+      expression-place-reads.Asked,
+      expression-place-reads.Learnt,
+      literal-at-reads.Asked,
+      literal-at-reads.Learnt,
       default-estimate-reads.Asked,
       default-estimate-reads.Learnt,
-      unary-selectivity-reads.Asked,
-      unary-selectivity-reads.Learnt,
-      binary-selectivity-reads.Asked,
-      binary-selectivity-reads.Learnt,
+      unary-at-reads.Asked,
+      unary-at-reads.Learnt,
+      binary-at-reads.Asked,
+      binary-at-reads.Learnt,
+      byte-at-reads.Asked,
+      byte-at-reads.Learnt,
+      nary-op-reads.Asked,
+      nary-op-reads.Learnt,
+      u16-at-reads.Asked,
+      u16-at-reads.Learnt,
       operand-product-below t,
       operand-product.Post,
       nary-estimate-reads.Asked,
@@ -750,21 +979,22 @@ pub +filter-selectivity-for-predicate+operand-estimate+operand-product-spec :
     )
     (filter-selectivity-for-predicate-at t)
     filter-selectivity-for-predicate.Post
-    (filter-selectivity-for-predicate-expression-of-requires t)
-    (filter-selectivity-for-predicate-enum-known-x t)
-    (filter-selectivity-for-predicate-literal-estimate-requires t)
-    (filter-selectivity-for-predicate-enum-told t)
+    (filter-selectivity-for-predicate-expression-kind-requires t)
+    (filter-selectivity-for-predicate-expression-place-requires t)
+    (filter-selectivity-for-predicate-literal-at-requires t)
     (filter-selectivity-for-predicate-default-estimate-requires t)
-    (filter-selectivity-for-predicate-enum-known-x-2 t)
-    (filter-selectivity-for-predicate-unary-selectivity-requires t)
-    (filter-selectivity-for-predicate-enum-known-x-3 t)
-    (filter-selectivity-for-predicate-binary-selectivity-requires t)
-    (filter-selectivity-for-predicate-enum-known-x-4 t)
+    (filter-selectivity-for-predicate-unary-at-requires t)
+    (filter-selectivity-for-predicate-binary-at-requires t)
+    (filter-selectivity-for-predicate-add-byte-at t)
+    (filter-selectivity-for-predicate-byte-at-requires t)
+    (filter-selectivity-for-predicate-nary-op-requires t)
+    (filter-selectivity-for-predicate-add-u16-at t)
+    (filter-selectivity-for-predicate-u16-at-requires t)
+    (filter-selectivity-for-predicate-add-u16-at-2 t)
+    (filter-selectivity-for-predicate-u16-at-requires-2 t)
     (filter-selectivity-for-predicate-operand-product-requires t)
     (filter-selectivity-for-predicate-nary-estimate-requires t)
-    (filter-selectivity-for-predicate-enum-told-2 t)
     (filter-selectivity-for-predicate-like-estimate-requires t)
-    (filter-selectivity-for-predicate-enum-told-3 t)
     (filter-selectivity-for-predicate-default-estimate-requires-2 t)
     (filter-selectivity-for-predicate-returns t)
     (filter-selectivity-for-predicate-returns-2 t)

@@ -1,24 +1,47 @@
--- Both columns are looked up, and compared by their numbers. Assumes nothing.
-use mathlib.Core.Path.{refl}
+-- A column with no profile gives the default, on either side. Assumes nothing.
 use Rattle.comparison.specs.Columns.{columnsSelectivity}
+use borrow.Author.Tests.{eq-eqb, ne-eqb}
+use mathlib.Core.Path.{refl}
 use borrow.Author.Needs.{needs}
 use Rattle.comparison.proofs.columns.columns_selectivity.Statement.{statement}
 use Rattle.comparison.proofs.columns.columns_selectivity.Tie as tie
 
-profile-and-rows-requires : tie.Need-profile-and-rows-requires
-profile-and-rows-requires c κs = search needs
+profile-place-requires : tie.Need-profile-place-requires
+profile-place-requires c κs = search needs
 
-profile-and-rows-requires-2 : tie.Need-profile-and-rows-requires-2
-profile-and-rows-requires-2 c κs = search needs
-
-found-columns-requires : tie.Need-found-columns-requires
-found-columns-requires c κs = search needs
+default-estimate-requires : tie.Need-default-estimate-requires
+default-estimate-requires c κs = search needs
 
 returns : tie.Need-returns
 unfolding columnsSelectivity
-returns c = rw (c .found-columns .ensures, c .before .profile-and-rows2 .ensures, c .before .before .profile-and-rows .ensures) refl
+returns c = rw (c .default-estimate .ensures, ← c .before .before .before .profile-place .ensures .0, eq-eqb _ 0 (c .before .if1 .taken)) refl
+
+profile-place-requires-2 : tie.Need-profile-place-requires-2
+profile-place-requires-2 c κs = search needs
+
+default-estimate-requires-2 : tie.Need-default-estimate-requires-2
+default-estimate-requires-2 c κs = search needs
+
+returns-2 : tie.Need-returns-2
+unfolding columnsSelectivity
+returns-2 c = let m = c .before .before .before in rw (c .default-estimate2 .ensures, ← m .before .before .before .profile-place .ensures .0, ← m .profile-place2 .ensures .0, ne-eqb _ 0 (m .before .if1 .left), eq-eqb _ 0 (c .before .if2 .taken)) refl
+
+profiles-selectivity-requires : tie.Need-profiles-selectivity-requires
+profiles-selectivity-requires c κs = search needs
+
+returns-3 : tie.Need-returns-3
+unfolding columnsSelectivity
+returns-3 c = let m = c .before .before .before in rw (c .profiles-selectivity .ensures, ← m .before .before .before .profile-place .ensures .0, ← m .profile-place2 .ensures .0, ne-eqb _ 0 (m .before .if1 .left), ne-eqb _ 0 (c .before .if2 .left)) refl
 
 pub columns-selectivity-spec : {M : Type 1} → statement M
 columns-selectivity-spec =
     tie.close
-    (tie.spec profile-and-rows-requires profile-and-rows-requires-2 found-columns-requires returns)
+    (tie.spec
+    profile-place-requires
+    default-estimate-requires
+    returns
+    profile-place-requires-2
+    default-estimate-requires-2
+    returns-2
+    profiles-selectivity-requires
+    returns-3)

@@ -1,6 +1,6 @@
 -- Each operator gives what its clause says. Assumes nothing.
-use lib.Ieee.{ofBits}
 use Rattle.comparison.specs.Literal.{comparisonSelectivity}
+use lib.Ieee.{ofBits}
 use mathlib.Core.Path.{refl}
 use borrow.Author.Needs.{needs}
 use Rattle.comparison.proofs.literal.comparison_selectivity.Statement.{statement}
@@ -8,6 +8,9 @@ use Rattle.comparison.proofs.literal.comparison_selectivity.Tie as tie
 
 enum-told : tie.Need-enum-told
 enum-told c = search needs
+
+equality-part-requires : tie.Need-equality-part-requires
+equality-part-requires c κs = search needs
 
 unit-estimate-requires : tie.Need-unit-estimate-requires
 unit-estimate-requires c κs = search needs
@@ -20,6 +23,9 @@ default-estimate-requires c κs = search needs
 
 enum-told-3 : tie.Need-enum-told-3
 enum-told-3 c = search needs
+
+equality-part-requires-2 : tie.Need-equality-part-requires-2
+equality-part-requires-2 c κs = search needs
 
 f64-max-requires : tie.Need-f64-max-requires
 f64-max-requires c κs = search needs
@@ -77,7 +83,7 @@ default-estimate-requires-5 c κs = search needs
 
 returns : tie.Need-returns
 unfolding comparisonSelectivity
-returns c = rw (c .unit-estimate .ensures, c .before .enum-told .given .1) refl
+returns c = rw (c .unit-estimate .ensures, c .before .equality-part .ensures, c .before .before .enum-told .given .1) refl
 
 returns-2 : tie.Need-returns-2
 unfolding comparisonSelectivity
@@ -85,7 +91,7 @@ returns-2 c = rw (c .default-estimate .ensures, c .before .enum-told2 .given .1)
 
 returns-3 : tie.Need-returns-3
 unfolding comparisonSelectivity ofBits
-returns-3 c = rw (c .unit-estimate2 .ensures, c .before .f64-max .ensures, c .before .before .enum-told3 .given .1) refl
+returns-3 c = rw (c .unit-estimate2 .ensures, c .before .f64-max .ensures, c .before .before .equality-part2 .ensures, c .before .before .before .enum-told3 .given .1) refl
 
 returns-4 : tie.Need-returns-4
 unfolding comparisonSelectivity
@@ -124,10 +130,12 @@ comparison-selectivity-spec =
     tie.close
     (tie.spec
     enum-told
+    equality-part-requires
     unit-estimate-requires
     enum-told-2
     default-estimate-requires
     enum-told-3
+    equality-part-requires-2
     f64-max-requires
     unit-estimate-requires-2
     enum-told-4

@@ -1,48 +1,42 @@
--- The figures are read from the column's profile, and Null goes before the operator. Assumes nothing.
-use Rattle.sheet.specs.Sheet.{sheetOf}
-use mathlib.Core.Path.{refl}
+-- Null goes before the operator, and the figures are read from the column's profile. Assumes nothing.
 use Rattle.comparison.specs.Literal.{profileSelectivity}
+use lib.Ieee.{ofBits}
+use mathlib.Core.Path.{refl}
 use borrow.Author.Needs.{needs}
 use Rattle.comparison.proofs.literal.profile_selectivity.Statement.{statement}
 use Rattle.comparison.proofs.literal.profile_selectivity.Tie as tie
 
-is-null-requires : tie.Need-is-null-requires
-is-null-requires c κs = search needs
+is-null-at-requires : tie.Need-is-null-at-requires
+is-null-at-requires c κs = search needs
+
+exact-requires : tie.Need-exact-requires
+exact-requires c κs = search needs
+
+returns : tie.Need-returns
+unfolding profileSelectivity ofBits
+returns c = rw (c .exact .ensures, ← c .before .before .is-null-at .ensures, c .before .if1 .taken) refl
+
+frequency-at-requires : tie.Need-frequency-at-requires
+frequency-at-requires c κs = search needs
 
 non-null-fraction-requires : tie.Need-non-null-fraction-requires
 non-null-fraction-requires c κs = search needs
 
-frequent-value-selectivity-requires : tie.Need-frequent-value-selectivity-requires
-frequent-value-selectivity-requires c κs = search needs
-
-equality-selectivity-requires : tie.Need-equality-selectivity-requires
-equality-selectivity-requires c κs = search needs
-
 comparison-selectivity-requires : tie.Need-comparison-selectivity-requires
 comparison-selectivity-requires c κs = search needs
 
-unless-null-requires : tie.Need-unless-null-requires
-unless-null-requires c κs = search needs
-
-returns : tie.Need-returns
-unfolding profileSelectivity sheetOf
-returns c = rw (
-  c .unless-null .ensures,
-  c .before .comparison-selectivity .ensures,
-  c .before .before .equality-selectivity .ensures,
-  c .before .before .before .frequent-value-selectivity .ensures,
-  c .before .before .before .before .non-null-fraction .ensures,
-  ← c .before .before .before .before .before .is-null .ensures,
-) refl
+returns-2 : tie.Need-returns-2
+unfolding profileSelectivity
+returns-2 c = rw (c .comparison-selectivity .ensures, c .before .non-null-fraction .ensures, c .before .before .frequency-at .ensures, ← c .before .before .before .before .is-null-at .ensures, c .before .before .before .if1 .left) refl
 
 pub profile-selectivity-spec : {M : Type 1} → statement M
 profile-selectivity-spec =
     tie.close
     (tie.spec
-    is-null-requires
+    is-null-at-requires
+    exact-requires
+    returns
+    frequency-at-requires
     non-null-fraction-requires
-    frequent-value-selectivity-requires
-    equality-selectivity-requires
     comparison-selectivity-requires
-    unless-null-requires
-    returns)
+    returns-2)

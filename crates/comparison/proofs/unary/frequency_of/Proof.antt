@@ -13,17 +13,14 @@ none-requires c κs = search needs
 enum-known-column : tie.Need-enum-known-column
 enum-known-column c = search needs
 
-profile-and-rows-requires : tie.Need-profile-and-rows-requires
-profile-and-rows-requires c κs = search needs
-
-frequency-in-requires : tie.Need-frequency-in-requires
-frequency-in-requires c κs = search needs
+column-frequency-requires : tie.Need-column-frequency-requires
+column-frequency-requires c κs = search needs
 
 returns : tie.Need-returns
 returns c = rw (c .none .ensures, c .before .enum-told .given .1) refl
 
 returns-2 : tie.Need-returns-2
-returns-2 c = rw (c .frequency-in .ensures, c .before .profile-and-rows .ensures, c .before .before .before .column .given .1) refl
+returns-2 c = rw (c .column-frequency .ensures, c .before .before .column .given .1) refl
 
 pub frequency-of-spec : {M : Type 1} → statement M
 frequency-of-spec =
@@ -32,7 +29,6 @@ frequency-of-spec =
     enum-told
     none-requires
     enum-known-column
-    profile-and-rows-requires
-    frequency-in-requires
+    column-frequency-requires
     returns
     returns-2)

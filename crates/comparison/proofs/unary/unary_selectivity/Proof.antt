@@ -4,9 +4,6 @@ use borrow.Author.Needs.{needs}
 use Rattle.comparison.proofs.unary.unary_selectivity.Statement.{statement}
 use Rattle.comparison.proofs.unary.unary_selectivity.Tie as tie
 
-expression-of-requires : tie.Need-expression-of-requires
-expression-of-requires c κs = search needs
-
 column-ref-requires : tie.Need-column-ref-requires
 column-ref-requires c κs = search needs
 
@@ -27,7 +24,6 @@ pub unary-selectivity-spec : {M : Type 1} → statement M
 unary-selectivity-spec =
     tie.close
     (tie.spec
-    expression-of-requires
     column-ref-requires
     frequency-of-requires
     larger-rows-requires

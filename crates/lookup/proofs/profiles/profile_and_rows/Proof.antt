@@ -1,34 +1,17 @@
--- The left side's profile where there is one, and the right side's otherwise. Assumes nothing.
+-- The profile at the place that was found. Assumes nothing.
+use mathlib.Core.Path.{_∙_}
 use borrow.Author.Needs.{needs}
-use Rattle.lookup.proofs.LookupLaws.{profile-left, profile-right}
 use Rattle.lookup.proofs.profiles.profile_and_rows.Statement.{statement}
 use Rattle.lookup.proofs.profiles.profile_and_rows.Tie as tie
 
-left-profile-requires : tie.Need-left-profile-requires
-left-profile-requires c κs = search needs
+profile-place-requires : tie.Need-profile-place-requires
+profile-place-requires c κs = search needs
 
-enum-told : tie.Need-enum-told
-enum-told c = search needs
-
-right-profile-requires : tie.Need-right-profile-requires
-right-profile-requires c κs = search needs
-
-enum-known-left : tie.Need-enum-known-left
-enum-known-left c = search needs
+profile-at-requires : tie.Need-profile-at-requires
+profile-at-requires c κs = search needs
 
 returns : tie.Need-returns
-returns c = profile-right _ _ _ (c .before .before .before .left-profile .ensures) _ (c .before .enum-told .given .1) (c .right-profile .ensures)
-
-returns-2 : tie.Need-returns-2
-returns-2 c = profile-left _ _ _ (c .before .before .before .left-profile .ensures) _ _ (c .before .left .given .1)
+returns c = c .profile-at .ensures ∙ c .before .profile-place .ensures .0
 
 pub profile-and-rows-spec : {M : Type 1} → statement M
-profile-and-rows-spec =
-    tie.close
-    (tie.spec
-    left-profile-requires
-    enum-told
-    right-profile-requires
-    enum-known-left
-    returns
-    returns-2)
+profile-and-rows-spec = tie.close (tie.spec profile-place-requires profile-at-requires returns)

@@ -1,4 +1,4 @@
--- Only the two operators of equality equate columns. Assumes nothing.
+-- An equality of two columns. Assumes nothing.
 use Rattle.parts.specs.Parts.{columnEqualityFromParts}
 use mathlib.Core.Path.{refl}
 use borrow.Author.Needs.{needs}

@@ -3,8 +3,8 @@ use borrow.Author.Needs.{needs}
 use Rattle.predicate.proofs.leaves.like_estimate.Statement.{statement}
 use Rattle.predicate.proofs.leaves.like_estimate.Tie as tie
 
-settings-of-requires : tie.Need-settings-of-requires
-settings-of-requires c κs = search needs
+like-selectivity-requires : tie.Need-like-selectivity-requires
+like-selectivity-requires c κs = search needs
 
 unit-estimate-requires : tie.Need-unit-estimate-requires
 unit-estimate-requires c κs = search needs
@@ -13,4 +13,4 @@ returns : tie.Need-returns
 returns c = cc
 
 pub like-estimate-spec : {M : Type 1} → statement M
-like-estimate-spec = tie.close (tie.spec settings-of-requires unit-estimate-requires returns)
+like-estimate-spec = tie.close (tie.spec like-selectivity-requires unit-estimate-requires returns)

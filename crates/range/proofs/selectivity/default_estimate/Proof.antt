@@ -4,8 +4,8 @@ use borrow.Author.Needs.{needs}
 use Rattle.range.proofs.selectivity.default_estimate.Statement.{statement}
 use Rattle.range.proofs.selectivity.default_estimate.Tie as tie
 
-settings-of-requires : tie.Need-settings-of-requires
-settings-of-requires c κs = search needs
+default-predicate-selectivity-requires : tie.Need-default-predicate-selectivity-requires
+default-predicate-selectivity-requires c κs = search needs
 
 unit-estimate-requires : tie.Need-unit-estimate-requires
 unit-estimate-requires c κs = search needs
@@ -15,4 +15,5 @@ unfolding defaultEstimate
 returns c = cc
 
 pub default-estimate-spec : {M : Type 1} → statement M
-default-estimate-spec = tie.close (tie.spec settings-of-requires unit-estimate-requires returns)
+default-estimate-spec =
+    tie.close (tie.spec default-predicate-selectivity-requires unit-estimate-requires returns)

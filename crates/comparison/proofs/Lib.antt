@@ -1,0 +1,2 @@
+mod BinaryLaws
+mod ColumnLaws
