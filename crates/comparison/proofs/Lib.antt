@@ -1,2 +1,1 @@
-mod BinaryLaws
 mod ColumnLaws

@@ -1,11 +1,14 @@
 // binary_selectivity of the source's analysis.rs for a column and a literal.
 ghost use mathlib.Core.Path.{_≡_};
 ghost use Prim.Native.Nat.{_<_, _^_};
+ghost use lib.Ieee.{binary64, mul};
 ghost use Rattle.scalar.specs.Types.{isNull};
 ghost use Rattle.scalar_bytes.specs.Reading.{scalarAt};
 ghost use Rattle.records.specs.Columns.{columnProfileAt};
 ghost use Rattle.sheet.specs.Sheet.{sheetOf};
-ghost use Rattle.comparison.specs.Literal.{equalitySelectivity, equalityPart, rangePart, comparisonSelectivity, profileSelectivity, literalSelectivity};
+ghost use Rattle.range.specs.Selectivity.{unitEstimate};
+ghost use Rattle.range.specs.Range.{rangeSelectivity};
+ghost use Rattle.comparison.specs.Literal.{equalitySelectivity, equalityPart, comparisonSelectivity, profileSelectivity, literalSelectivity};
 use estimate::Estimate;
 use float::option::OptionF64;
 use float::order::f64_max;
@@ -15,6 +18,7 @@ use lookup::profiles::frequency_at;
 use lookup::profiles::profile_place;
 use range::range_selectivity;
 use range::selectivity::default_estimate;
+use range::selectivity::default_predicate_selectivity;
 use range::selectivity::non_null_fraction;
 use range::selectivity::range_fallback_selectivity;
 use range::selectivity::unit_estimate;
@@ -62,47 +66,46 @@ fn equality_part(s: &[u8], q: Sections, profile: usize, literal: usize, non_null
 
 fn range_part(
     s: &[u8],
-    q: Sections,
     profile: usize,
     literal: usize,
     op: BinaryOp,
+    fallback: f64,
     non_null: f64,
-) -> Estimate
+) -> f64
     requires { ⌜ (profile < 2 ^ 40) × (literal < 2 ^ 40) ⌝ }
-    ensures { λ r. ⌜ r ≡ rangePart (sheetOf (now (s .entry)) q) (columnProfileAt (now (s .entry)) profile) (scalarAt (now (s .entry)) literal) op «non_null» ⌝ }
+    ensures { λ r. ⌜ r ≡ mul binary64 (rangeSelectivity (columnProfileAt (now (s .entry)) profile) (scalarAt (now (s .entry)) literal) op fallback .value) «non_null» ⌝ }
 {
-    let fallback = range_fallback_selectivity(s, q);
-    let conditional = range_selectivity(s, profile, literal, op, fallback);
-    unit_estimate(conditional.value * non_null)
+    range_selectivity(s, profile, literal, op, fallback).value * non_null
 }
 
-// The sketch is asked only by the operators that need it.
-fn comparison_selectivity(
+// The value before it is held to its bounds. The sketch is asked only by the operators that need it.
+fn comparison_value(
     s: &[u8],
     q: Sections,
     profile: usize,
     literal: usize,
     op: BinaryOp,
     non_null: f64,
-) -> Estimate
+) -> f64
     requires { ⌜ (profile < 2 ^ 40) × (literal < 2 ^ 40) ⌝ }
-    ensures { λ r. ⌜ r ≡ comparisonSelectivity (sheetOf (now (s .entry)) q) (columnProfileAt (now (s .entry)) profile) (scalarAt (now (s .entry)) literal) op «non_null» (equalityPart (sheetOf (now (s .entry)) q) (columnProfileAt (now (s .entry)) profile) (scalarAt (now (s .entry)) literal) «non_null») ⌝ }
+    ensures { λ r. ⌜ unitEstimate r ≡ comparisonSelectivity (sheetOf (now (s .entry)) q) (columnProfileAt (now (s .entry)) profile) (scalarAt (now (s .entry)) literal) op «non_null» (equalityPart (sheetOf (now (s .entry)) q) (columnProfileAt (now (s .entry)) profile) (scalarAt (now (s .entry)) literal) «non_null») ⌝ }
 {
+    let fallback = range_fallback_selectivity(s, q);
     match op {
-        BinaryOp::Eq => unit_estimate(equality_part(s, q, profile, literal, non_null)),
-        BinaryOp::IsNotDistinctFrom => default_estimate(s, q),
+        BinaryOp::Eq => equality_part(s, q, profile, literal, non_null),
+        BinaryOp::IsNotDistinctFrom => default_predicate_selectivity(s, q),
         BinaryOp::NotEq => {
             let equality = equality_part(s, q, profile, literal, non_null);
-            unit_estimate(f64_max(non_null - equality, 0.0))
+            f64_max(non_null - equality, 0.0)
         }
-        BinaryOp::Lt => range_part(s, q, profile, literal, BinaryOp::Lt, non_null),
-        BinaryOp::LtEq => range_part(s, q, profile, literal, BinaryOp::LtEq, non_null),
-        BinaryOp::Gt => range_part(s, q, profile, literal, BinaryOp::Gt, non_null),
-        BinaryOp::GtEq => range_part(s, q, profile, literal, BinaryOp::GtEq, non_null),
-        BinaryOp::Add => default_estimate(s, q),
-        BinaryOp::Subtract => default_estimate(s, q),
-        BinaryOp::Multiply => default_estimate(s, q),
-        BinaryOp::Divide => default_estimate(s, q),
+        BinaryOp::Lt => range_part(s, profile, literal, BinaryOp::Lt, fallback, non_null),
+        BinaryOp::LtEq => range_part(s, profile, literal, BinaryOp::LtEq, fallback, non_null),
+        BinaryOp::Gt => range_part(s, profile, literal, BinaryOp::Gt, fallback, non_null),
+        BinaryOp::GtEq => range_part(s, profile, literal, BinaryOp::GtEq, fallback, non_null),
+        BinaryOp::Add => default_predicate_selectivity(s, q),
+        BinaryOp::Subtract => default_predicate_selectivity(s, q),
+        BinaryOp::Multiply => default_predicate_selectivity(s, q),
+        BinaryOp::Divide => default_predicate_selectivity(s, q),
     }
 }
 
@@ -122,7 +125,7 @@ fn profile_selectivity(
         return Estimate::exact(0.0);
     }
     let non_null = non_null_fraction(frequency_at(s, profile), rows);
-    comparison_selectivity(s, q, profile, literal, op, non_null)
+    unit_estimate(comparison_value(s, q, profile, literal, op, non_null))
 }
 
 // A column against the scalar at a place.

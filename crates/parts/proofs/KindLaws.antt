@@ -8,14 +8,18 @@ use lib.Dec.{eqb}
 use Rattle.le.specs.Fields.{byteAt, u16At}
 use Rattle.scalar_bytes.specs.Reading.{scalarAt}
 use Rattle.records.specs.Expressions.{unaryOp, binaryOp, naryOp}
+use Rattle.records.specs.declared.expressions.BinaryOp.{BinaryOp}
 use Rattle.records.specs.declared.expressions.Expression.the-variants.{Literal, ColumnRef, Unary, Binary, Nary, Like, Other}
 use Rattle.sheet.specs.Sheet.{sheetOf}
 use Rattle.sheet.specs.declared.Sections.{Sections}
 use Rattle.lookup.specs.Lookup.{expressionOf, expressionPlace, expressionKind}
 use Rattle.lookup.proofs.LookupLaws.{expression-of-kind}
-use Rattle.parts.specs.Parts.{columnRef, literalOf, equalityIn}
-use Rattle.parts.specs.declared.OptionColumn.the-variants.{Absent as NoColumn}
+use Rattle.parts.specs.Parts.{columnRef, literalOf, columnBeside, orElseReversed, equalityIn}
+use Rattle.parts.specs.declared.OptionColumn.{OptionColumn}
+use Rattle.parts.specs.declared.OptionColumn.the-variants.{Absent as NoColumn, Present as Column}
 use Rattle.parts.specs.declared.literals.OptionLiteral.the-variants.{Absent as NoLiteral}
+use Rattle.parts.specs.declared.literals.ColumnLiteral.{ColumnLiteral}
+use Rattle.parts.specs.declared.literals.ColumnLiteral.the-variants.{Absent as NoPair, Present as Pair}
 use Rattle.parts.specs.declared.equalities.ColumnEquality.the-variants.{Absent}
 
 module _ (s : List ℕ) (q : Sections) (e : ℕ) where
@@ -63,3 +67,9 @@ module _ (s : List ℕ) (q : Sections) (e : ℕ) where
       go false false false true e = refl
       go false false false false true = refl
       go false false false false false = refl
+
+-- where the left side is no literal, the column can only stand there
+pub no-second : (op : BinaryOp) (first : ColumnLiteral) (column : OptionColumn) → first ≡ orElseReversed first (columnBeside op column NoLiteral)
+no-second op NoPair NoColumn = refl
+no-second op NoPair (Column c) = refl
+no-second op (Pair c v o) column = refl

@@ -1,6 +1,9 @@
 -- What the sides of a binary expression are: `column_ref`, `column_literal`, `column_equality` and `column_equality_from_parts` of the source's analysis.rs. Definitions only.
 use Prim.Native.Nat.{ℕ}
 use mathlib.Core.Bool.{Bool, true, false, cond}
+use mathlib.Core.List.{List}
+use lib.Dec.{eqb}
+use Rattle.scalar_bytes.specs.Reading.{scalarAt}
 use Rattle.records.specs.declared.expressions.BinaryOp.{BinaryOp}
 use Rattle.records.specs.declared.expressions.BinaryOp.the-variants.{Eq, IsNotDistinctFrom, NotEq, Lt, LtEq, Gt, GtEq, Add, Subtract, Multiply, Divide}
 use Rattle.records.specs.declared.expressions.Expression.{Expression}
@@ -13,6 +16,7 @@ use Rattle.parts.specs.declared.literals.OptionLiteral.{OptionLiteral}
 use Rattle.parts.specs.declared.literals.OptionLiteral.the-variants.{Absent as NoLiteral, Present as Value}
 use Rattle.parts.specs.declared.literals.ColumnLiteral.{ColumnLiteral}
 use Rattle.parts.specs.declared.literals.ColumnLiteral.the-variants.{Absent as NoPair, Present as Pair}
+use Rattle.parts.specs.declared.literals.PlacedLiteral.{PlacedLiteral}
 use Rattle.parts.specs.declared.equalities.ColumnEquality.{ColumnEquality}
 use Rattle.parts.specs.declared.equalities.ColumnEquality.the-variants.{Absent, Present}
 
@@ -63,6 +67,10 @@ orElseReversed (Pair column literal op) other = Pair column literal op
 unfoldable pub columnLiteral : BinaryOp → Expression → Expression → ColumnLiteral
 columnLiteral op left right =
     orElseReversed (columnBeside op (columnRef left) (literalOf right)) (columnBeside (reversed op) (columnRef right) (literalOf left))
+
+-- the pair that a place stands for: at 0 there is none
+abbrev pub placedLiteral : List ℕ → PlacedLiteral → ColumnLiteral
+placedLiteral s p = cond (eqb (p .at) 0) NoPair (Pair (p .column) (scalarAt s (p .at)) (p .op))
 
 -- ---- two columns
 

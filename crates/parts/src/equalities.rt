@@ -19,7 +19,7 @@ pub enum ColumnEquality {
     Present { left: u16, right: u16 },
 }
 
-pub fn is_equality(op: BinaryOp) -> bool
+fn is_equality(op: BinaryOp) -> bool
     ensures { λ r. ⌜ r ≡ isEquality op ⌝ }
 {
     match op {

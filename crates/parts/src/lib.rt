@@ -1,5 +1,5 @@
 // What the sides of a binary expression are: column_ref of the source's analysis.rs, and in the
-// modules what its column_literal gives, its column_equality and column_equality_from_parts.
+// modules its column_literal, column_equality and column_equality_from_parts.
 ghost use mathlib.Core.Path.{_≡_};
 ghost use Rattle.sheet.specs.Sheet.{sheetOf};
 ghost use Rattle.lookup.specs.Lookup.{expressionOf};

@@ -1,8 +1,15 @@
-// What column_literal of the source's analysis.rs gives: a column beside a literal.
+// column_literal of the source's analysis.rs: a column beside a literal.
 ghost use mathlib.Core.Path.{_≡_};
-ghost use Rattle.parts.specs.Parts.{reversed};
+ghost use Prim.Native.Nat.{_+_, _<_, _^_};
+ghost use Rattle.sheet.specs.Sheet.{sheetOf};
+ghost use Rattle.lookup.specs.Lookup.{expressionOf, expressionPlace};
+ghost use Rattle.parts.specs.Parts.{columnRef, literalOf, reversed, columnBeside, columnLiteral, placedLiteral};
+use le::reads::u16_at;
+use lookup::numbers::expression_kind;
+use lookup::numbers::expression_place;
 use records::expressions::BinaryOp;
 use scalar::Scalar;
+use sheet::Sections;
 
 pub enum OptionLiteral {
     Absent,
@@ -19,8 +26,15 @@ pub enum ColumnLiteral {
     },
 }
 
+// The same by where the literal stands in the sheet: 0 where there is no such pair.
+pub struct PlacedLiteral {
+    pub column: u16,
+    pub at: usize,
+    pub op: BinaryOp,
+}
+
 // The operator with its sides exchanged.
-pub fn reversed(op: BinaryOp) -> BinaryOp
+fn reversed(op: BinaryOp) -> BinaryOp
     ensures { λ r. ⌜ r ≡ reversed op ⌝ }
 {
     match op {
@@ -36,4 +50,45 @@ pub fn reversed(op: BinaryOp) -> BinaryOp
         BinaryOp::Multiply => BinaryOp::Multiply,
         BinaryOp::Divide => BinaryOp::Divide,
     }
+}
+
+// Where the scalar of a literal stands.
+fn literal_place(q: Sections, e: u16) -> usize
+    ensures { λ r. ⌜ (r ≡ expressionPlace (q .expressions) e + 6) × (r < 2 ^ 40) ⌝ }
+{
+    expression_place(q, e) + 6
+}
+
+// Of two expressions by their numbers.
+fn column_beside(s: &[u8], q: Sections, op: BinaryOp, column: u16, literal: u16) -> PlacedLiteral
+    ensures { λ r. ⌜ (placedLiteral (now (s .entry)) r ≡ columnBeside op (columnRef (expressionOf (sheetOf (now (s .entry)) q) column)) (literalOf (expressionOf (sheetOf (now (s .entry)) q) literal))) × (r .at < 2 ^ 40) ⌝ }
+{
+    if expression_kind(s, q, column) != 1 {
+        return PlacedLiteral {
+            column: 0,
+            at: 0,
+            op,
+        };
+    }
+    if expression_kind(s, q, literal) != 0 {
+        return PlacedLiteral {
+            column: 0,
+            at: 0,
+            op,
+        };
+    }
+    PlacedLiteral {
+        column: u16_at(s, expression_place(q, column) + 2),
+        at: literal_place(q, literal),
+        op,
+    }
+}
+
+pub fn column_literal(s: &[u8], q: Sections, op: BinaryOp, left: u16, right: u16) -> PlacedLiteral
+    ensures { λ r. ⌜ (placedLiteral (now (s .entry)) r ≡ columnLiteral op (expressionOf (sheetOf (now (s .entry)) q) left) (expressionOf (sheetOf (now (s .entry)) q) right)) × (r .at < 2 ^ 40) ⌝ }
+{
+    if expression_kind(s, q, left) == 0 {
+        return column_beside(s, q, reversed(op), right, left);
+    }
+    column_beside(s, q, op, left, right)
 }

@@ -14,7 +14,7 @@ pub fn unit_estimate(value: f64) -> Estimate
     Estimate::derived(value, some(0.0), some(1.0))
 }
 
-fn default_predicate_selectivity(s: &[u8], q: Sections) -> f64
+pub fn default_predicate_selectivity(s: &[u8], q: Sections) -> f64
     ensures { λ r. ⌜ r ≡ sheetOf (now (s .entry)) q .settings .«default_predicate_selectivity» ⌝ }
 {
     f64_at(s, q.settings as usize + 2 + 8)

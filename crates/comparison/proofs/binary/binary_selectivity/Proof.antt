@@ -1,40 +1,38 @@
--- A left side that is no column and no literal gives the default. Assumes nothing.
-use Rattle.comparison.proofs.BinaryLaws.{neither}
-use Rattle.parts.proofs.KindLaws.{column-not, literal-not}
-use mathlib.Core.Path.{_∙_}
+-- A literal beside a column goes before two columns. Assumes nothing.
+use Rattle.comparison.specs.Binary.{binarySelectivity}
+use borrow.Author.Tests.{eq-eqb, ne-eqb}
+use mathlib.Core.Path.{refl}
 use borrow.Author.Needs.{needs}
 use Rattle.comparison.proofs.binary.binary_selectivity.Statement.{statement}
 use Rattle.comparison.proofs.binary.binary_selectivity.Tie as tie
 
-expression-kind-requires : tie.Need-expression-kind-requires
-expression-kind-requires c κs = search needs
+column-literal-requires : tie.Need-column-literal-requires
+column-literal-requires c κs = search needs
 
-literal-left-requires : tie.Need-literal-left-requires
-literal-left-requires c κs = search needs
-
-column-left-requires : tie.Need-column-left-requires
-column-left-requires c κs = search needs
-
-default-estimate-requires : tie.Need-default-estimate-requires
-default-estimate-requires c κs = search needs
+literal-selectivity-requires : tie.Need-literal-selectivity-requires
+literal-selectivity-requires c κs = search needs
 
 returns : tie.Need-returns
-returns c = search needs
+unfolding binarySelectivity
+returns c = rw (c .literal-selectivity .ensures, ← c .before .before .before .column-literal .ensures .0, ne-eqb _ 0 (c .before .if1 .taken)) refl
+
+column-equality-from-parts-requires : tie.Need-column-equality-from-parts-requires
+column-equality-from-parts-requires c κs = search needs
+
+equality-or-default-requires : tie.Need-equality-or-default-requires
+equality-or-default-requires c κs = search needs
 
 returns-2 : tie.Need-returns-2
-returns-2 c = search needs
-
-returns-3 : tie.Need-returns-3
-returns-3 c = let k = c .before .before in let args = k .before .before .args in c .default-estimate .ensures ∙ neither _ _ _ _ (column-not (args .s .now) (args .q) (args .left) (λ h. c .before .match .rest .1 (k .expression-kind .ensures ∙ h))) (literal-not (args .s .now) (args .q) (args .left) (λ h. c .before .match .rest .0 .1 (k .expression-kind .ensures ∙ h)))
+unfolding binarySelectivity
+returns-2 c = rw (c .equality-or-default .ensures, c .before .column-equality-from-parts .ensures, ← c .before .before .before .before .column-literal .ensures .0, eq-eqb _ 0 (c .before .before .if1 .left)) refl
 
 pub binary-selectivity-spec : {M : Type 1} → statement M
 binary-selectivity-spec =
     tie.close
     (tie.spec
-    expression-kind-requires
-    literal-left-requires
-    column-left-requires
-    default-estimate-requires
+    column-literal-requires
+    literal-selectivity-requires
     returns
-    returns-2
-    returns-3)
+    column-equality-from-parts-requires
+    equality-or-default-requires
+    returns-2)

@@ -22,12 +22,15 @@ frequency-at-requires c κs = search needs
 non-null-fraction-requires : tie.Need-non-null-fraction-requires
 non-null-fraction-requires c κs = search needs
 
-comparison-selectivity-requires : tie.Need-comparison-selectivity-requires
-comparison-selectivity-requires c κs = search needs
+comparison-value-requires : tie.Need-comparison-value-requires
+comparison-value-requires c κs = search needs
+
+unit-estimate-requires : tie.Need-unit-estimate-requires
+unit-estimate-requires c κs = search needs
 
 returns-2 : tie.Need-returns-2
 unfolding profileSelectivity
-returns-2 c = rw (c .comparison-selectivity .ensures, c .before .non-null-fraction .ensures, c .before .before .frequency-at .ensures, ← c .before .before .before .before .is-null-at .ensures, c .before .before .before .if1 .left) refl
+returns-2 c = rw (c .unit-estimate .ensures, c .before .comparison-value .ensures, c .before .before .non-null-fraction .ensures, c .before .before .before .frequency-at .ensures, ← c .before .before .before .before .before .is-null-at .ensures, c .before .before .before .before .if1 .left) refl
 
 pub profile-selectivity-spec : {M : Type 1} → statement M
 profile-selectivity-spec =
@@ -38,5 +41,6 @@ profile-selectivity-spec =
     returns
     frequency-at-requires
     non-null-fraction-requires
-    comparison-selectivity-requires
+    comparison-value-requires
+    unit-estimate-requires
     returns-2)
