@@ -88,7 +88,8 @@ pub fn column_literal(s: &[u8], q: Sections, op: BinaryOp, left: u16, right: u16
     ensures { λ r. ⌜ (placedLiteral (now (s .entry)) r ≡ columnLiteral op (expressionOf (sheetOf (now (s .entry)) q) left) (expressionOf (sheetOf (now (s .entry)) q) right)) × (r .at < 2 ^ 40) ⌝ }
 {
     if expression_kind(s, q, left) == 0 {
-        return column_beside(s, q, reversed(op), right, left);
+        let turned = reversed(op);
+        return column_beside(s, q, turned, right, left);
     }
     column_beside(s, q, op, left, right)
 }
