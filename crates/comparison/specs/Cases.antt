@@ -11,7 +11,7 @@ use Rattle.records.specs.declared.columns.ColumnProfile.{ColumnProfile}
 use Rattle.records.specs.declared.expressions.BinaryOp.the-variants.{IsNotDistinctFrom, NotEq}
 use Rattle.sheet.specs.Sheet.{Sheet}
 use Rattle.range.specs.Selectivity.{unitEstimate, defaultEstimate}
-use Rattle.comparison.specs.Literal.{comparisonSelectivity, profileSelectivity}
+use Rattle.comparison.specs.Literal.{comparisonValue, comparisonSelectivity, profileSelectivity}
 use Rattle.comparison.specs.Columns.{pairSelectivity}
 
 abbrev half : Float
@@ -26,12 +26,12 @@ unfolding profileSelectivity
 null-safe-null sheet profile rows = refl
 
 null-safe-value : (sheet : Sheet) (profile : ColumnProfile) (rows : Float) → profileSelectivity sheet profile rows (Boolean true) IsNotDistinctFrom ≡ defaultEstimate sheet
-unfolding profileSelectivity
+unfolding profileSelectivity defaultEstimate
 null-safe-value sheet profile rows = refl
 
 -- a value that takes more than the rows that are not null leaves none
 none-left : (sheet : Sheet) (profile : ColumnProfile) (literal : Scalar) → comparisonSelectivity sheet profile literal NotEq quarter half ≡ unitEstimate f64Zero
-unfolding comparisonSelectivity sub lt
+unfolding comparisonValue sub lt
 none-left sheet profile literal = refl
 
 -- of half the rows on each side the only value meets itself in a quarter, and so do the nulls

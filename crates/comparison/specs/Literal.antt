@@ -27,30 +27,34 @@ equalitySelectivity frequent nonNull distinct = cond (frequent .present) (freque
 abbrev pub equalityPart : Sheet → ColumnProfile → Scalar → Float → Float
 equalityPart sheet profile literal nonNull = equalitySelectivity (frequentValueSelectivity (sheet .sketches) profile literal) nonNull (profile .distinct .value)
 
-abbrev pub rangePart : Sheet → ColumnProfile → Scalar → BinaryOp → Float → Estimate
+abbrev pub rangePart : Sheet → ColumnProfile → Scalar → BinaryOp → Float → Float
 rangePart sheet profile literal op nonNull =
-    unitEstimate (mul binary64 (rangeSelectivity profile literal op (sheet .settings .«range_fallback_selectivity») .value) nonNull)
+    mul binary64 (rangeSelectivity profile literal op (sheet .settings .«range_fallback_selectivity») .value) nonNull
 
-unfoldable pub comparisonSelectivity : Sheet → ColumnProfile → Scalar → BinaryOp → Float → Float → Estimate
-unfolding unitEstimate defaultEstimate rangeSelectivity
-comparisonSelectivity sheet profile literal Eq nonNull equality = unitEstimate equality
-comparisonSelectivity sheet profile literal IsNotDistinctFrom nonNull equality = defaultEstimate sheet
-comparisonSelectivity sheet profile literal NotEq nonNull equality = unitEstimate (f64Max (sub binary64 nonNull equality) f64Zero)
-comparisonSelectivity sheet profile literal Lt nonNull equality = rangePart sheet profile literal Lt nonNull
-comparisonSelectivity sheet profile literal LtEq nonNull equality = rangePart sheet profile literal LtEq nonNull
-comparisonSelectivity sheet profile literal Gt nonNull equality = rangePart sheet profile literal Gt nonNull
-comparisonSelectivity sheet profile literal GtEq nonNull equality = rangePart sheet profile literal GtEq nonNull
-comparisonSelectivity sheet profile literal Add nonNull equality = defaultEstimate sheet
-comparisonSelectivity sheet profile literal Subtract nonNull equality = defaultEstimate sheet
-comparisonSelectivity sheet profile literal Multiply nonNull equality = defaultEstimate sheet
-comparisonSelectivity sheet profile literal Divide nonNull equality = defaultEstimate sheet
+-- by the operator; the default where it compares nothing, and for IS NOT DISTINCT FROM
+unfoldable pub comparisonValue : Sheet → ColumnProfile → Scalar → BinaryOp → Float → Float → Float
+unfolding rangeSelectivity
+comparisonValue sheet profile literal Eq nonNull equality = equality
+comparisonValue sheet profile literal IsNotDistinctFrom nonNull equality = sheet .settings .«default_predicate_selectivity»
+comparisonValue sheet profile literal NotEq nonNull equality = f64Max (sub binary64 nonNull equality) f64Zero
+comparisonValue sheet profile literal Lt nonNull equality = rangePart sheet profile literal Lt nonNull
+comparisonValue sheet profile literal LtEq nonNull equality = rangePart sheet profile literal LtEq nonNull
+comparisonValue sheet profile literal Gt nonNull equality = rangePart sheet profile literal Gt nonNull
+comparisonValue sheet profile literal GtEq nonNull equality = rangePart sheet profile literal GtEq nonNull
+comparisonValue sheet profile literal Add nonNull equality = sheet .settings .«default_predicate_selectivity»
+comparisonValue sheet profile literal Subtract nonNull equality = sheet .settings .«default_predicate_selectivity»
+comparisonValue sheet profile literal Multiply nonNull equality = sheet .settings .«default_predicate_selectivity»
+comparisonValue sheet profile literal Divide nonNull equality = sheet .settings .«default_predicate_selectivity»
+
+abbrev pub comparisonSelectivity : Sheet → ColumnProfile → Scalar → BinaryOp → Float → Float → Estimate
+comparisonSelectivity sheet profile literal op nonNull equality = unitEstimate (comparisonValue sheet profile literal op nonNull equality)
 
 -- Null is never matched, whatever the operator
 abbrev pub unlessNull : Bool → Estimate → Estimate
 unlessNull null compared = cond null (exact f64Zero) compared
 
 unfoldable pub profileSelectivity : Sheet → ColumnProfile → Float → Scalar → BinaryOp → Estimate
-unfolding exact nonNullFraction frequentValueSelectivity comparisonSelectivity
+unfolding exact unitEstimate nonNullFraction frequentValueSelectivity comparisonValue
 profileSelectivity sheet profile rows literal op =
     let nonNull = nonNullFraction (profile .frequency .value) rows in
     unlessNull (isNull literal) (comparisonSelectivity sheet profile literal op nonNull (equalityPart sheet profile literal nonNull))

@@ -1,14 +1,11 @@
 // binary_selectivity of the source's analysis.rs for a column and a literal.
 ghost use mathlib.Core.Path.{_≡_};
 ghost use Prim.Native.Nat.{_<_, _^_};
-ghost use lib.Ieee.{binary64, mul};
 ghost use Rattle.scalar.specs.Types.{isNull};
 ghost use Rattle.scalar_bytes.specs.Reading.{scalarAt};
 ghost use Rattle.records.specs.Columns.{columnProfileAt};
 ghost use Rattle.sheet.specs.Sheet.{sheetOf};
-ghost use Rattle.range.specs.Selectivity.{unitEstimate};
-ghost use Rattle.range.specs.Range.{rangeSelectivity};
-ghost use Rattle.comparison.specs.Literal.{equalitySelectivity, equalityPart, comparisonSelectivity, profileSelectivity, literalSelectivity};
+ghost use Rattle.comparison.specs.Literal.{equalitySelectivity, equalityPart, rangePart, comparisonValue, profileSelectivity, literalSelectivity};
 use estimate::Estimate;
 use float::option::OptionF64;
 use float::order::f64_max;
@@ -66,15 +63,16 @@ fn equality_part(s: &[u8], q: Sections, profile: usize, literal: usize, non_null
 
 fn range_part(
     s: &[u8],
+    q: Sections,
     profile: usize,
     literal: usize,
     op: BinaryOp,
-    fallback: f64,
     non_null: f64,
 ) -> f64
     requires { ⌜ (profile < 2 ^ 40) × (literal < 2 ^ 40) ⌝ }
-    ensures { λ r. ⌜ r ≡ mul binary64 (rangeSelectivity (columnProfileAt (now (s .entry)) profile) (scalarAt (now (s .entry)) literal) op fallback .value) «non_null» ⌝ }
+    ensures { λ r. ⌜ r ≡ rangePart (sheetOf (now (s .entry)) q) (columnProfileAt (now (s .entry)) profile) (scalarAt (now (s .entry)) literal) op «non_null» ⌝ }
 {
+    let fallback = range_fallback_selectivity(s, q);
     range_selectivity(s, profile, literal, op, fallback).value * non_null
 }
 
@@ -88,9 +86,8 @@ fn comparison_value(
     non_null: f64,
 ) -> f64
     requires { ⌜ (profile < 2 ^ 40) × (literal < 2 ^ 40) ⌝ }
-    ensures { λ r. ⌜ unitEstimate r ≡ comparisonSelectivity (sheetOf (now (s .entry)) q) (columnProfileAt (now (s .entry)) profile) (scalarAt (now (s .entry)) literal) op «non_null» (equalityPart (sheetOf (now (s .entry)) q) (columnProfileAt (now (s .entry)) profile) (scalarAt (now (s .entry)) literal) «non_null») ⌝ }
+    ensures { λ r. ⌜ r ≡ comparisonValue (sheetOf (now (s .entry)) q) (columnProfileAt (now (s .entry)) profile) (scalarAt (now (s .entry)) literal) op «non_null» (equalityPart (sheetOf (now (s .entry)) q) (columnProfileAt (now (s .entry)) profile) (scalarAt (now (s .entry)) literal) «non_null») ⌝ }
 {
-    let fallback = range_fallback_selectivity(s, q);
     match op {
         BinaryOp::Eq => equality_part(s, q, profile, literal, non_null),
         BinaryOp::IsNotDistinctFrom => default_predicate_selectivity(s, q),
@@ -98,10 +95,10 @@ fn comparison_value(
             let equality = equality_part(s, q, profile, literal, non_null);
             f64_max(non_null - equality, 0.0)
         }
-        BinaryOp::Lt => range_part(s, profile, literal, BinaryOp::Lt, fallback, non_null),
-        BinaryOp::LtEq => range_part(s, profile, literal, BinaryOp::LtEq, fallback, non_null),
-        BinaryOp::Gt => range_part(s, profile, literal, BinaryOp::Gt, fallback, non_null),
-        BinaryOp::GtEq => range_part(s, profile, literal, BinaryOp::GtEq, fallback, non_null),
+        BinaryOp::Lt => range_part(s, q, profile, literal, BinaryOp::Lt, non_null),
+        BinaryOp::LtEq => range_part(s, q, profile, literal, BinaryOp::LtEq, non_null),
+        BinaryOp::Gt => range_part(s, q, profile, literal, BinaryOp::Gt, non_null),
+        BinaryOp::GtEq => range_part(s, q, profile, literal, BinaryOp::GtEq, non_null),
         BinaryOp::Add => default_predicate_selectivity(s, q),
         BinaryOp::Subtract => default_predicate_selectivity(s, q),
         BinaryOp::Multiply => default_predicate_selectivity(s, q),

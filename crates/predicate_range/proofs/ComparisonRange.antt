@@ -29,7 +29,7 @@ use Rattle.lookup.specs.Lookup.{expressionOf, profileAndRows}
 use Rattle.lookup.specs.declared.profiles.ProfileAndRows.{ProfileAndRows}
 use Rattle.lookup.specs.declared.profiles.ProfileAndRows.the-variants.{Absent, Present}
 use Rattle.sketch.specs.Frequent.{frequentValueSelectivity}
-use Rattle.range.specs.Selectivity.{nonNullFraction}
+use Rattle.range.specs.Selectivity.{unitEstimate, defaultEstimate, nonNullFraction}
 use Rattle.range.specs.Range.{rangeSelectivity}
 use Rattle.parts.specs.Parts.{columnRef, isNullSafe, columnLiteral, columnEqualityFromParts}
 use Rattle.parts.specs.declared.OptionColumn.{OptionColumn}
@@ -38,7 +38,7 @@ use Rattle.parts.specs.declared.literals.ColumnLiteral.{ColumnLiteral}
 use Rattle.parts.specs.declared.literals.ColumnLiteral.the-variants.{Absent as NoPair, Present as Pair}
 use Rattle.parts.specs.declared.equalities.ColumnEquality.{ColumnEquality}
 use Rattle.parts.specs.declared.equalities.ColumnEquality.the-variants.{Absent as NoEquality, Present as Equality}
-use Rattle.comparison.specs.Literal.{equalitySelectivity, rangePart, comparisonSelectivity, profileSelectivity, foundSelectivity, literalSelectivity}
+use Rattle.comparison.specs.Literal.{equalitySelectivity, rangePart, comparisonValue, comparisonSelectivity, profileSelectivity, foundSelectivity, literalSelectivity}
 use Rattle.comparison.specs.Columns.{selfSelectivity, pairSelectivity, profilesSelectivity, foundColumns, columnsSelectivity}
 use Rattle.comparison.specs.Unary.{frequencyIn, frequencyOf, largerRows, tenth, nineTenths, isNullSelectivity, isNotNullSelectivity, unarySelectivity}
 use Rattle.comparison.specs.Binary.{equalityOrDefault, literalOrEquality, binarySelectivity}
@@ -52,7 +52,7 @@ use Rattle.predicate_range.proofs.PartRange.{LawfulPair, pair-lawful}
 
 -- ---- a column and a literal
 module _ (sheet : Sheet) (h : LawfulSheet sheet) where
-  range-part : (profile : ColumnProfile) (literal : Scalar) (op : BinaryOp) (nonNull : Float) → LawfulProfile (length (sheet .sketches)) profile → lawfulScalar literal ≡ true → Unit01 nonNull → BoundedInUnit (rangePart sheet profile literal op nonNull)
+  range-part : (profile : ColumnProfile) (literal : Scalar) (op : BinaryOp) (nonNull : Float) → LawfulProfile (length (sheet .sketches)) profile → lawfulScalar literal ≡ true → Unit01 nonNull → BoundedInUnit (unitEstimate (rangePart sheet profile literal op nonNull))
   range-part profile literal op nonNull p l u =
       let fallback = sheet .settings .«range_fallback_selectivity» in
       let r = range-bounded profile literal op fallback (p .lower) (p .upper) l (selectivity-unit fallback (h .settings .«range_fallback_selectivity»)) in
@@ -61,7 +61,7 @@ module _ (sheet : Sheet) (h : LawfulSheet sheet) where
 
   comparison : (profile : ColumnProfile) (literal : Scalar) (op : BinaryOp) (nonNull equality : Float) → LawfulProfile (length (sheet .sketches)) profile → lawfulScalar literal ≡ true → Unit01 nonNull → Unit01 equality
       → BoundedInUnit (comparisonSelectivity sheet profile literal op nonNull equality)
-  unfolding comparisonSelectivity
+  unfolding comparisonValue defaultEstimate
   comparison profile literal Eq nonNull equality p l u v = unit-bounded equality v
   comparison profile literal IsNotDistinctFrom nonNull equality p l u v = default-bounded sheet h
   comparison profile literal NotEq nonNull equality p l u v = unit-bounded (f64Max (sub binary64 nonNull equality) f64Zero) (positive-difference-unit nonNull equality u v)

@@ -1,14 +1,10 @@
 -- Each operator gives what its clause says. Assumes nothing.
-use Rattle.comparison.specs.Literal.{comparisonSelectivity}
-use Rattle.range.specs.Selectivity.{defaultEstimate}
+use Rattle.comparison.specs.Literal.{comparisonValue}
 use lib.Ieee.{ofBits}
 use mathlib.Core.Path.{refl}
 use borrow.Author.Needs.{needs}
 use Rattle.comparison.proofs.literal.comparison_value.Statement.{statement}
 use Rattle.comparison.proofs.literal.comparison_value.Tie as tie
-
-range-fallback-selectivity-requires : tie.Need-range-fallback-selectivity-requires
-range-fallback-selectivity-requires c κs = search needs
 
 enum-told : tie.Need-enum-told
 enum-told c = search needs
@@ -80,54 +76,53 @@ default-predicate-selectivity-requires-5 : tie.Need-default-predicate-selectivit
 default-predicate-selectivity-requires-5 c κs = search needs
 
 returns : tie.Need-returns
-unfolding comparisonSelectivity
+unfolding comparisonValue
 returns c = rw (c .equality-part .ensures, c .before .enum-told .given .1) refl
 
 returns-2 : tie.Need-returns-2
-unfolding comparisonSelectivity defaultEstimate
+unfolding comparisonValue
 returns-2 c = rw (c .default-predicate-selectivity .ensures, c .before .enum-told2 .given .1) refl
 
 returns-3 : tie.Need-returns-3
-unfolding comparisonSelectivity ofBits
+unfolding comparisonValue ofBits
 returns-3 c = rw (c .f64-max .ensures, c .before .equality-part2 .ensures, c .before .before .enum-told3 .given .1) refl
 
 returns-4 : tie.Need-returns-4
-unfolding comparisonSelectivity
-returns-4 c = rw (c .range-part .ensures, c .before .before .before .range-fallback-selectivity .ensures, c .before .enum-told4 .given .1) refl
+unfolding comparisonValue
+returns-4 c = rw (c .range-part .ensures, c .before .enum-told4 .given .1) refl
 
 returns-5 : tie.Need-returns-5
-unfolding comparisonSelectivity
-returns-5 c = rw (c .range-part2 .ensures, c .before .before .before .range-fallback-selectivity .ensures, c .before .enum-told5 .given .1) refl
+unfolding comparisonValue
+returns-5 c = rw (c .range-part2 .ensures, c .before .enum-told5 .given .1) refl
 
 returns-6 : tie.Need-returns-6
-unfolding comparisonSelectivity
-returns-6 c = rw (c .range-part3 .ensures, c .before .before .before .range-fallback-selectivity .ensures, c .before .enum-told6 .given .1) refl
+unfolding comparisonValue
+returns-6 c = rw (c .range-part3 .ensures, c .before .enum-told6 .given .1) refl
 
 returns-7 : tie.Need-returns-7
-unfolding comparisonSelectivity
-returns-7 c = rw (c .range-part4 .ensures, c .before .before .before .range-fallback-selectivity .ensures, c .before .enum-told7 .given .1) refl
+unfolding comparisonValue
+returns-7 c = rw (c .range-part4 .ensures, c .before .enum-told7 .given .1) refl
 
 returns-8 : tie.Need-returns-8
-unfolding comparisonSelectivity defaultEstimate
+unfolding comparisonValue
 returns-8 c = rw (c .default-predicate-selectivity2 .ensures, c .before .enum-told8 .given .1) refl
 
 returns-9 : tie.Need-returns-9
-unfolding comparisonSelectivity defaultEstimate
+unfolding comparisonValue
 returns-9 c = rw (c .default-predicate-selectivity3 .ensures, c .before .enum-told9 .given .1) refl
 
 returns-10 : tie.Need-returns-10
-unfolding comparisonSelectivity defaultEstimate
+unfolding comparisonValue
 returns-10 c = rw (c .default-predicate-selectivity4 .ensures, c .before .enum-told10 .given .1) refl
 
 returns-11 : tie.Need-returns-11
-unfolding comparisonSelectivity defaultEstimate
+unfolding comparisonValue
 returns-11 c = rw (c .default-predicate-selectivity5 .ensures, c .before .enum-told11 .given .1) refl
 
 pub comparison-value-spec : {M : Type 1} → statement M
 comparison-value-spec =
     tie.close
     (tie.spec
-    range-fallback-selectivity-requires
     enum-told
     equality-part-requires
     enum-told-2
