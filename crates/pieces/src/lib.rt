@@ -15,8 +15,8 @@ use interval::fraction::IntervalFraction;
 use interval::fraction::scalar_interval_fraction;
 use interval::intersection::DistinctIntersection;
 use interval::intersection::estimated_distinct_intersection;
+use range::numbers::number_at;
 use records::columns::column_profile_at;
-use scalar::number::scalar_to_f64;
 use scalar::order::ScalarOrdering;
 use scalar::order::scalar_order;
 use scalar_bytes::reads::scalar_at;
@@ -56,7 +56,7 @@ pub extern "C" fn pieces_scalar_order(left: &[u8], right: &[u8]) -> u64
 fn number_of(value: &[u8]) -> OptionF64
     ensures { λ r. ⌜ r ≡ scalarToF64 (scalarAt (now (value .entry)) 0) ⌝ }
 {
-    scalar_to_f64(scalar_at(value, 0))
+    number_at(value, 0)
 }
 
 // Whether a scalar of 19 bytes has a number.

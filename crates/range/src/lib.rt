@@ -15,7 +15,7 @@ use float::order::f64_max;
 use records::expressions::BinaryOp;
 use rules::both;
 
-mod numbers;
+pub mod numbers;
 pub mod selectivity;
 
 fn width(min: f64, max: f64) -> f64

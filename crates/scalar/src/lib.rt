@@ -1,8 +1,7 @@
-// The source's ScalarValue: its type, its order and its number.
+// The source's ScalarValue: its type and its order. Its number is defined in specs/Number.
 ghost use mathlib.Core.Path.{_≡_};
 ghost use Rattle.scalar.specs.Types.{plainType, scalarType, sameType, isNull};
 
-pub mod number;
 pub mod order;
 
 // Cases as in the source, without Utf8. Null has no type beside it, and a decimal's value lies
