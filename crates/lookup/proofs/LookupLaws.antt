@@ -17,12 +17,13 @@ use Rattle.records.specs.Expressions.{unaryOp, binaryOp, naryOp, expressionAt}
 use Rattle.records.specs.declared.expressions.Expression.{Expression}
 use Rattle.records.specs.declared.expressions.Expression.the-variants.{Literal, ColumnRef, Unary, Binary, Nary, Like, Other}
 use Rattle.records.proofs.ListLaws.{tabulate-alike, tabulate-step, tabulate-end}
+use Rattle.expression_rules.specs.Operands.{expressionPlace}
 use Rattle.sheet.specs.Sheet.{recordIn, recordsIn, sheetOf}
 use Rattle.sheet.specs.declared.Sections.{Sections}
 use Rattle.sheet.specs.declared.order.Kind.the-variants.{Columns, Expressions, Operands}
 use Rattle.sheet.proofs.PlaceLaws.{columns-fixed, expressions-fixed, operands-fixed, fixed-place}
 use Rattle.sheet.proofs.SheetLaws.{records-length, fixed-record-at}
-use Rattle.lookup.specs.Lookup.{expressionOf, operandIn, operandsOf, profileIn, leftProfile, rightProfile, profileAndRows, placedProfile, PlaceIn, expressionPlace, expressionKind}
+use Rattle.lookup.specs.Lookup.{expressionOf, operandIn, operandsOf, profileIn, leftProfile, rightProfile, profileAndRows, placedProfile, PlaceIn, expressionKind}
 use Rattle.lookup.specs.declared.profiles.ProfileAndRows.{ProfileAndRows}
 use Rattle.lookup.specs.declared.profiles.ProfileAndRows.the-variants.{Absent, Present}
 

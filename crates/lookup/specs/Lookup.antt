@@ -11,6 +11,7 @@ use Rattle.records.specs.Columns.{columnProfileAt}
 use Rattle.records.specs.declared.columns.ColumnProfile.{ColumnProfile}
 use Rattle.records.specs.declared.expressions.Expression.{Expression}
 use Rattle.records.specs.declared.expressions.Expression.the-variants.{Other}
+use Rattle.expression_rules.specs.Operands.{expressionPlace}
 use Rattle.sheet.specs.Sheet.{Sheet, recordsIn}
 use Rattle.sheet.specs.declared.Sections.{Sections}
 use Rattle.sheet.specs.declared.order.Kind.the-variants.{Columns}
@@ -63,10 +64,6 @@ placedProfile s at rows = cond (eqb at 0) Absent (Present (columnProfileAt s at)
 abbrev pub PlaceIn : List ℕ → ℕ → ℕ → ℕ → Type 0
 PlaceIn s start column at = (rows : Float) → placedProfile s at rows ≡ profileIn rows column (recordsIn Columns columnProfileAt s start)
 
--- expression e of the section whose count stands at `start`
-abbrev pub expressionPlace : ℕ → ℕ → ℕ
-expressionPlace start e = start + 2 + 25 * e
-
--- the byte that tells its kind; where there is no such expression, that of any other one
+-- the byte that tells an expression's kind; where there is no such expression, that of any other one
 abbrev pub expressionKind : List ℕ → Sections → ℕ → ℕ
 expressionKind s q e = cond (ltb e (u16At s (q .expressions))) (byteAt s (expressionPlace (q .expressions) e)) 6

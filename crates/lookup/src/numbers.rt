@@ -2,8 +2,9 @@
 ghost use mathlib.Core.Path.{_≡_};
 ghost use Prim.Native.Nat.{_+_, _<_, _^_, min};
 ghost use lib.ListN.{length};
+ghost use Rattle.expression_rules.specs.Operands.{expressionPlace};
 ghost use Rattle.sheet.specs.Sheet.{sheetOf};
-ghost use Rattle.lookup.specs.Lookup.{expressionOf, operandIn, expressionPlace, expressionKind};
+ghost use Rattle.lookup.specs.Lookup.{expressionOf, operandIn, expressionKind};
 use le::reads::byte_at;
 use le::reads::u16_at;
 use records::expressions::Expression;

@@ -10,9 +10,10 @@ use Rattle.scalar_bytes.specs.Reading.{scalarAt}
 use Rattle.records.specs.Expressions.{unaryOp, binaryOp, naryOp}
 use Rattle.records.specs.declared.expressions.BinaryOp.{BinaryOp}
 use Rattle.records.specs.declared.expressions.Expression.the-variants.{Literal, ColumnRef, Unary, Binary, Nary, Like, Other}
+use Rattle.expression_rules.specs.Operands.{expressionPlace}
 use Rattle.sheet.specs.Sheet.{sheetOf}
 use Rattle.sheet.specs.declared.Sections.{Sections}
-use Rattle.lookup.specs.Lookup.{expressionOf, expressionPlace, expressionKind}
+use Rattle.lookup.specs.Lookup.{expressionOf, expressionKind}
 use Rattle.lookup.proofs.LookupLaws.{expression-of-kind}
 use Rattle.parts.specs.Parts.{columnRef, literalOf, columnBeside, orElseReversed, equalityIn}
 use Rattle.parts.specs.declared.OptionColumn.{OptionColumn}

@@ -1,8 +1,9 @@
 // column_literal of the source's analysis.rs: a column beside a literal.
 ghost use mathlib.Core.Path.{_≡_};
 ghost use Prim.Native.Nat.{_+_, _<_, _^_};
+ghost use Rattle.expression_rules.specs.Operands.{expressionPlace};
 ghost use Rattle.sheet.specs.Sheet.{sheetOf};
-ghost use Rattle.lookup.specs.Lookup.{expressionOf, expressionPlace};
+ghost use Rattle.lookup.specs.Lookup.{expressionOf};
 ghost use Rattle.parts.specs.Parts.{columnRef, literalOf, reversed, columnBeside, columnLiteral, placedLiteral};
 use le::reads::u16_at;
 use lookup::numbers::expression_kind;

@@ -13,9 +13,10 @@ use Rattle.records.specs.declared.expressions.NaryOp.{NaryOp}
 use Rattle.records.specs.Expressions.{naryOp}
 use Rattle.records.specs.declared.expressions.Expression.the-variants.{Other}
 use Rattle.records.proofs.ListLaws.{tabulate-step, tabulate-end}
+use Rattle.expression_rules.specs.Operands.{expressionPlace}
 use Rattle.sheet.specs.Sheet.{Sheet, sheetOf}
 use Rattle.sheet.specs.declared.Sections.{Sections}
-use Rattle.lookup.specs.Lookup.{operandIn, operandsOf, expressionPlace, expressionKind}
+use Rattle.lookup.specs.Lookup.{operandIn, operandsOf, expressionKind}
 use Rattle.lookup.specs.Recursion.{below, byNumber}
 use Rattle.lookup.proofs.LookupLaws.{operands-from, ofKind, expression-is}
 use Rattle.lookup.proofs.RecursionLaws.{below-is, below-not}
