@@ -1,4 +1,4 @@
--- What a loop over the roots has left to count, to measure and to write. Assumes nothing.
+-- What a loop over the roots has left to write. Assumes nothing.
 use Prim.Native.Nat.{ℕ, _+_, _-_, _≤_, _<_}
 use mathlib.Core.Path.{_≡_, refl, sym, ap, _∙_}
 use mathlib.Core.Bool.{Bool, true, false, cond}
@@ -14,19 +14,17 @@ use Rattle.estimate.specs.declared.Estimate.{Estimate}
 use Rattle.estimate.proofs.EstimateLaws.{estimate-length}
 use Rattle.number_bytes.specs.Numbers.{numbersBytes}
 use Rattle.number_bytes.proofs.FilledLaws.{Filled, filled-length}
-use Rattle.records.specs.Lists.{tabulate}
 use Rattle.records.specs.Classes.{ColumnEquivalenceClass}
 use Rattle.sheet.specs.Sheet.{sheetOf}
 use Rattle.sheet.specs.declared.Sections.{Sections}
 use Rattle.selection.specs.Selected.{selected}
 use Rattle.selection.proofs.SelectedLaws.{selected-step, selected-end}
-use Rattle.class_state.specs.State.{columnLimit, members, isReturned, returnedRoots, classAtRoot, intoClasses}
+use Rattle.class_state.specs.State.{members, isReturned, returnedRoots, classAtRoot, intoClasses}
 use Rattle.class_state.specs.Places.{distinctAt, stateOf}
 use Rattle.class_state.specs.Bytes.{classBytes, classesBytes}
-use Rattle.class_state.specs.Sizes.{memberCount, returnedSize, sizeAtRoot, sumOver, classesSize}
+use Rattle.class_state.specs.Sizes.{memberCount, returnedSize, sizeAtRoot, classesSize}
 use Rattle.class_state.proofs.UnionLaws.{root-distinct}
-use Rattle.class_state.proofs.SizeLaws.{class-length, classes-size, count-step, count-end, sum-step, sum-end}
-use Rattle.class_state.proofs.CountLaws.{count-at}
+use Rattle.class_state.proofs.SizeLaws.{class-length, classes-size}
 
 pub head-length : (count : ℕ) (d : Estimate) → length (u16Bytes count ++ estimateBytes d) ≡ 28
 unfolding fieldBytes
@@ -57,37 +55,6 @@ module _ (roots : List ℕ) where
 
     pub size-not : count < 2 → 0 ≡ returnedSize (memberCount roots root)
     size-not h = ap (λ (b : Bool). cond b (sizeAtRoot roots root) 0) (sym (returned-not h))
-
-  -- ---- how many they are
-
-  abbrev pub countLeft : ℕ → ℕ
-  countLeft i = length (returnedFrom roots i)
-
-  pub count-left-first : countLeft 0 ≡ length (returnedRoots roots)
-  count-left-first = ap length returned-are
-
-  pub count-left-next : (counts : List ℕ) (i one : ℕ) → counts ≡ tabulate (memberCount roots) columnLimit → i < 128 → one ≡ bit (leb 2 (getD counts i 0)) → countLeft i ≡ one + countLeft (i + 1)
-  count-left-next counts i one e h f =
-      count-step (isReturned roots) i 128 h ∙ ap (λ (k : ℕ). k + countLeft (i + 1)) (sym (f ∙ ap (λ (n : ℕ). bit (leb 2 n)) (count-at roots counts i e h)))
-
-  pub count-left-none : (i : ℕ) → 128 ≤ i → countLeft i ≡ 0
-  count-left-none i h = count-end (isReturned roots) i 128 h
-
-  -- ---- how many bytes
-
-  abbrev pub sizeLeft : ℕ → ℕ
-  sizeLeft i = sumOver (sizeAtRoot roots) (returnedFrom roots i)
-
-  pub size-left-first : sizeLeft 0 ≡ classesSize roots
-  unfolding classesSize
-  size-left-first = ap (sumOver (sizeAtRoot roots)) returned-are
-
-  pub size-left-next : (counts : List ℕ) (i one : ℕ) → counts ≡ tabulate (memberCount roots) columnLimit → i < 128 → one ≡ returnedSize (getD counts i 0) → sizeLeft i ≡ one + sizeLeft (i + 1)
-  size-left-next counts i one e h f =
-      sum-step (isReturned roots) i 128 (sizeAtRoot roots) h ∙ ap (λ (k : ℕ). k + sizeLeft (i + 1)) (sym (f ∙ ap returnedSize (count-at roots counts i e h)))
-
-  pub size-left-none : (i : ℕ) → 128 ≤ i → sizeLeft i ≡ 0
-  size-left-none i h = sum-end (isReturned roots) i 128 (sizeAtRoot roots) h
 
   -- ---- the bytes
 

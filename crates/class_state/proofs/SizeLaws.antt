@@ -1,10 +1,10 @@
 -- How many classes are returned, how many bytes they take, and how many at most. Assumes nothing.
 use Prim.Native.Nat.{ℕ, zero, suc, _+_, _-_, _*_, _≤_, _<_}
-use mathlib.Core.Path.{_≡_, refl, sym, ap, _∙_}
+use mathlib.Core.Path.{_≡_, refl, ap, _∙_}
 use mathlib.Core.Bool.{Bool, true, false, cond}
 use mathlib.Core.List.{List, [], _∷_, _++_, map, List·Memᴰ, List·Memᴰ·head, List·Memᴰ·tail}
 use native.Mathlib.Omega.{arith}
-use native.Mathlib.Nat.{zero-add, mul-add}
+use native.Mathlib.Nat.{mul-add}
 use borrow.Author.Tests.{eqb-true, ne-eqb, leb-true}
 use lib.Dec.{eqb}
 use lib.ListN.{length, getD, length-append}
@@ -60,7 +60,7 @@ module _ (sheet : Sheet) (state : ClassState) where
   unfolding intoClasses classesSize
   classes-size = roots-size (returnedRoots (state .roots))
 
--- ---- what is left of a sum, where a loop stands at the number i
+-- ---- how many are left, where a loop stands at the number i
 
 module _ (test : ℕ → Bool) (i n : ℕ) where
   pub count-step : i < n → length (selected test i (n - i)) ≡ bit (test i) + length (selected test (i + 1) (n - (i + 1)))
@@ -72,19 +72,6 @@ module _ (test : ℕ → Bool) (i n : ℕ) where
 
   pub count-end : n ≤ i → length (selected test i (n - i)) ≡ 0
   count-end h = ap length (selected-end test i n h)
-
-  module _ (f : ℕ → ℕ) where
-    pub sum-step : i < n → sumOver f (selected test i (n - i)) ≡ cond (test i) (f i) 0 + sumOver f (selected test (i + 1) (n - (i + 1)))
-    unfolding sumOver
-    sum-step h = ap (sumOver f) (selected-step test i n h) ∙ one (test i) (selected test (i + 1) (n - (i + 1)))
-      where
-        one : (b : Bool) (l : List ℕ) → sumOver f (cond b (i ∷ []) [] ++ l) ≡ cond b (f i) 0 + sumOver f l
-        one true l = refl
-        one false l = sym (zero-add (sumOver f l))
-
-    pub sum-end : n ≤ i → sumOver f (selected test i (n - i)) ≡ 0
-    unfolding sumOver
-    sum-end h = ap (sumOver f) (selected-end test i n h)
 
 -- ---- sums over lists
 

@@ -4,6 +4,7 @@ use mathlib.Core.Bool.{cond}
 use mathlib.Core.List.{List, [], _∷_}
 use lib.Dec.{leb}
 use lib.ListN.{length}
+use Rattle.float.specs.Integers.{bit}
 use Rattle.class_state.specs.State.{members, returnedRoots}
 
 -- how many columns have a root
@@ -24,6 +25,14 @@ sizeAtRoot roots root = classSize (memberCount roots root)
 unfoldable pub sumOver : (ℕ → ℕ) → List ℕ → ℕ
 sumOver f [] = 0
 sumOver f (x ∷ l) = f x + sumOver f l
+
+-- of so many columns at each root: how many classes are returned
+abbrev pub returnedCount : List ℕ → ℕ
+returnedCount counts = sumOver (λ (n : ℕ). bit (leb 2 n)) counts
+
+-- and how many bytes they take
+abbrev pub countsSize : List ℕ → ℕ
+countsSize counts = sumOver returnedSize counts
 
 unfoldable pub classesSize : List ℕ → ℕ
 unfolding members returnedRoots sumOver

@@ -1,16 +1,16 @@
 // What is returned: the classes of two columns or more, ascending by the column at their root.
 ghost use mathlib.Core.Path.{_≡_};
 ghost use mathlib.Core.Bool.{cond};
-ghost use mathlib.Core.List.{List, []};
-ghost use Prim.Native.Nat.{ℕ, _*_, _≤_};
+ghost use mathlib.Core.List.{[]};
+ghost use Prim.Native.Nat.{_*_, _≤_};
 ghost use lib.ListN.{length};
 ghost use Rattle.le.specs.Fields.{onto};
 ghost use Rattle.records.specs.Lists.{tabulate};
 ghost use Rattle.sheet.specs.Sheet.{sheetOf};
-ghost use Rattle.class_state.specs.State.{columnLimit, isReturned, returnedRoots, classAtRoot, intoClasses};
+ghost use Rattle.class_state.specs.State.{columnLimit, isReturned, classAtRoot, intoClasses};
 ghost use Rattle.class_state.specs.Places.{stateOf};
 ghost use Rattle.class_state.specs.Bytes.{classBytes, classesBytes};
-ghost use Rattle.class_state.specs.Sizes.{memberCount, returnedSize, sizeAtRoot, classesSize};
+ghost use Rattle.class_state.specs.Sizes.{memberCount, returnedSize, sizeAtRoot, returnedCount, countsSize, classesSize};
 use crate::distincts::distinct_at;
 use crate::members::put_members;
 use crate::slots::place_of;
@@ -22,7 +22,7 @@ use sheet::Sections;
 // How many classes are returned, by how many columns each root has.
 pub fn class_count(counts: &[u8]) -> usize
     requires { ⌜ length (now counts) ≡ columnLimit ⌝ }
-    ensures { λ r. ⌜ ((roots : List ℕ) → now (counts .entry) ≡ tabulate (memberCount roots) columnLimit → r ≡ length (returnedRoots roots)) ⌝ }
+    ensures { λ r. ⌜ r ≡ returnedCount (now (counts .entry)) ⌝ }
 {
     let mut n: usize = 0;
     let mut root: usize = 0;
@@ -46,7 +46,7 @@ fn returned_size(count: u8) -> u32
 // How many bytes they take.
 pub fn classes_size(counts: &[u8]) -> usize
     requires { ⌜ length (now counts) ≡ columnLimit ⌝ }
-    ensures { λ r. ⌜ ((roots : List ℕ) → now (counts .entry) ≡ tabulate (memberCount roots) columnLimit → r ≡ classesSize roots) ⌝ }
+    ensures { λ r. ⌜ r ≡ countsSize (now (counts .entry)) ⌝ }
     ensures { λ r. ⌜ r ≤ 128 * 538 ⌝ }
 {
     let mut size: u32 = 0;

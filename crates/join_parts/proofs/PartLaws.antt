@@ -14,15 +14,21 @@ use Rattle.estimate.specs.Bytes.{estimateBytes}
 use Rattle.estimate.specs.declared.Estimate.{Estimate}
 use Rattle.number_bytes.specs.Numbers.{numbersBytes}
 use Rattle.number_bytes.proofs.NumberLaws.{numbers-length}
+use Rattle.records.specs.Lists.{tabulate}
 use Rattle.sheet.specs.Sheet.{Sheet}
-use Rattle.class_state.specs.State.{ClassState, returnedRoots, classAtRoot, intoClasses}
+use Rattle.class_state.specs.State.{ClassState, columnLimit, returnedRoots, classAtRoot, intoClasses}
 use Rattle.class_state.specs.Bytes.{classesBytes}
-use Rattle.class_state.specs.Sizes.{classesSize}
+use Rattle.class_state.specs.Sizes.{memberCount, countsSize, classesSize}
 use Rattle.class_state.proofs.SizeLaws.{classes-size}
+use Rattle.class_state.proofs.CountLaws.{counts-size}
 use Rattle.edge_fold.specs.Coverages.{coverageSize}
 use Rattle.join_parts.specs.Parts.{figuresPart, classesPart, coveragesPart, columnsPart}
 
 -- ---- counts
+
+-- the size of an answer, by the counts and by the roots that have them
+pub join-sized : (roots counts : List ℕ) (size covered marked : ℕ) → counts ≡ tabulate (memberCount roots) columnLimit → size ≡ 68 + countsSize counts + covered + marked → size ≡ 68 + classesSize roots + covered + marked
+join-sized roots counts size covered marked e s = let k = counts-size roots counts e in omega arith
 
 pub classes-length : (sheet : Sheet) (state : ClassState) → length (intoClasses sheet state) ≡ length (returnedRoots (state .roots))
 unfolding intoClasses

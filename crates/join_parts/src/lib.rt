@@ -1,14 +1,13 @@
 // The parts of a join's answer, each to the front of what is lent.
 ghost use mathlib.Core.Path.{_≡_};
-ghost use mathlib.Core.List.{List};
-ghost use Prim.Native.Nat.{ℕ, _+_, _*_, _≤_};
+ghost use Prim.Native.Nat.{_+_, _*_, _≤_};
 ghost use lib.ListN.{length, take};
 ghost use Rattle.le.specs.Fields.{onto};
 ghost use Rattle.records.specs.Lists.{tabulate};
 ghost use Rattle.sheet.specs.Sheet.{sheetOf};
 ghost use Rattle.class_state.specs.State.{columnLimit, intoClasses};
 ghost use Rattle.class_state.specs.Places.{stateOf};
-ghost use Rattle.class_state.specs.Sizes.{memberCount, classesSize};
+ghost use Rattle.class_state.specs.Sizes.{memberCount, countsSize, classesSize};
 ghost use Rattle.equality_pairs.specs.NonNull.{markedColumns};
 ghost use Rattle.edge_fold.specs.Coverages.{coverageSize};
 ghost use Rattle.join_parts.specs.Parts.{figuresPart, classesPart, coveragesPart, columnsPart, behindClasses, behindFigures};
@@ -120,7 +119,7 @@ pub fn put_behind_figures(
 // How many bytes the answer has.
 pub fn join_size(counts: &[u8], coverages: usize, marks: &[bool]) -> usize
     requires { ⌜ (length (now counts) ≡ columnLimit) × (coverages ≤ 64) ⌝ }
-    ensures { λ r. ⌜ ((roots : List ℕ) → now (counts .entry) ≡ tabulate (memberCount roots) columnLimit → r ≡ 68 + classesSize roots + coverageSize * coverages + 2 * length (markedColumns (now (marks .entry)))) ⌝ }
+    ensures { λ r. ⌜ r ≡ 68 + countsSize (now (counts .entry)) + coverageSize * coverages + 2 * length (markedColumns (now (marks .entry))) ⌝ }
 {
     68 + classes_size(counts) + COVERAGE_SIZE * coverages + 2 * marked_count(marks)
 }

@@ -38,7 +38,7 @@ use Rattle.parts.specs.declared.literals.ColumnLiteral.{ColumnLiteral}
 use Rattle.parts.specs.declared.literals.ColumnLiteral.the-variants.{Absent as NoPair, Present as Pair}
 use Rattle.parts.specs.declared.equalities.ColumnEquality.{ColumnEquality}
 use Rattle.parts.specs.declared.equalities.ColumnEquality.the-variants.{Absent as NoEquality, Present as Equality}
-use Rattle.comparison.specs.Literal.{equalitySelectivity, rangePart, comparisonValue, comparisonSelectivity, profileSelectivity, foundSelectivity, literalSelectivity}
+use Rattle.comparison.specs.Literal.{equalityPart, rangePart, comparisonValue, comparisonSelectivity, profileSelectivity, foundSelectivity, literalSelectivity}
 use Rattle.comparison.specs.Columns.{selfSelectivity, pairSelectivity, profilesSelectivity, foundColumns, columnsSelectivity}
 use Rattle.comparison.specs.Unary.{frequencyIn, frequencyOf, largerRows, tenth, nineTenths, isNullSelectivity, isNotNullSelectivity, unarySelectivity}
 use Rattle.comparison.specs.Binary.{equalityOrDefault, literalOrEquality, binarySelectivity}
@@ -75,7 +75,7 @@ module _ (sheet : Sheet) (h : LawfulSheet sheet) where
   comparison profile literal Divide nonNull equality p l u v = default-bounded sheet h
 
   equality-unit : (profile : ColumnProfile) (literal : Scalar) (nonNull : Float) → LawfulProfile (length (sheet .sketches)) profile → Unit01 nonNull
-      → Unit01 (equalitySelectivity (frequentValueSelectivity (sheet .sketches) profile literal) nonNull (profile .distinct .value))
+      → Unit01 (equalityPart sheet profile literal nonNull)
   equality-unit profile literal nonNull p u =
       let frequent = frequentValueSelectivity (sheet .sketches) profile literal in
       let distinct = profile .distinct .value in
@@ -86,7 +86,7 @@ module _ (sheet : Sheet) (h : LawfulSheet sheet) where
   profile-bounded profile rows literal op p f l =
       let nonNull = nonNullFraction (profile .frequency .value) rows in
       let u = fraction-unit (profile .frequency .value) rows (p .frequency .value) f in
-      let equality = equalitySelectivity (frequentValueSelectivity (sheet .sketches) profile literal) nonNull (profile .distinct .value) in
+      let equality = equalityPart sheet profile literal nonNull in
       either BoundedInUnit (isNull literal) (exact f64Zero) (comparisonSelectivity sheet profile literal op nonNull equality) (exact-bounded f64Zero zero-unit) (comparison profile literal op nonNull equality p l u (equality-unit profile literal nonNull p u))
 
   found-bounded : (found : ProfileAndRows) (literal : Scalar) (op : BinaryOp) → LawfulFound (length (sheet .sketches)) found → lawfulScalar literal ≡ true → BoundedInUnit (foundSelectivity sheet found literal op)

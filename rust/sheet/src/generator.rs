@@ -63,16 +63,6 @@ fn begin(seed: u64) -> Draw {
 
 /// A sheet with its rows and settings and nothing else.
 fn blank(draw: &mut Draw) -> Sheet {
-    Sheet {
-        rows: figures::both_rows(&mut draw.random, &draw.style),
-        settings: figures::settings(&mut draw.random, &draw.style),
-        sketches: Vec::new(),
-        tables: Vec::new(),
-        keys: Vec::new(),
-        columns: [Vec::new(), Vec::new()],
-        classes: [Vec::new(), Vec::new()],
-        expressions: Vec::new(),
-        operands: Vec::new(),
-        conjuncts: Vec::new(),
-    }
+    let rows = figures::both_rows(&mut draw.random, &draw.style);
+    Sheet::bare(rows, figures::settings(&mut draw.random, &draw.style))
 }

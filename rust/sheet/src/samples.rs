@@ -1,7 +1,8 @@
 //! Hand-made sheets.
 
 use crate::values::{
-    Class, Column, Estimate, Expression, Key, Scalar, Sheet, Sketch, SketchItem, Table,
+    Class, Column, DEFAULT_SETTINGS, Estimate, Expression, Key, Scalar, Sheet, Sketch, SketchItem,
+    Table,
 };
 
 /// A value of source 1, without bounds.
@@ -16,18 +17,8 @@ pub fn from_catalog(value: f64) -> Estimate {
 
 /// Rows 100 and 50, the default settings and nothing else.
 pub fn empty() -> Sheet {
-    Sheet {
-        rows: [from_catalog(100.0), from_catalog(50.0)],
-        settings: [0.1, 0.25, 0.33, 1000.0, 100.0],
-        sketches: vec![],
-        tables: vec![],
-        keys: vec![],
-        columns: [vec![], vec![]],
-        classes: [vec![], vec![]],
-        expressions: vec![],
-        operands: vec![],
-        conjuncts: vec![],
-    }
+    let rows = [from_catalog(100.0), from_catalog(50.0)];
+    Sheet::bare(rows, DEFAULT_SETTINGS)
 }
 
 /// One scalar of each type, and the outermost ones of some.

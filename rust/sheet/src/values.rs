@@ -146,6 +146,27 @@ pub struct Sheet {
     pub conjuncts: Vec<u16>,
 }
 
+/// The source's own settings, where a sheet tells no others.
+pub const DEFAULT_SETTINGS: [f64; 5] = [0.1, 0.25, 0.33, 1000.0, 100.0];
+
+impl Sheet {
+    /// A sheet with its rows and settings and nothing else.
+    pub fn bare(rows: [Estimate; 2], settings: [f64; 5]) -> Sheet {
+        Sheet {
+            rows,
+            settings,
+            sketches: Vec::new(),
+            tables: Vec::new(),
+            keys: Vec::new(),
+            columns: [Vec::new(), Vec::new()],
+            classes: [Vec::new(), Vec::new()],
+            expressions: Vec::new(),
+            operands: Vec::new(),
+            conjuncts: Vec::new(),
+        }
+    }
+}
+
 /// What a field of a sheet's bytes holds.
 #[derive(Debug, Clone, Copy, PartialEq, Eq, Hash)]
 pub enum Holds {

@@ -5,7 +5,7 @@ use mathlib.Core.Bool.{Bool}
 use native.Mathlib.Omega.{arith}
 use Rattle.le.proofs.OntoLaws.{onto-part}
 use Rattle.class_state.proofs.CountLaws.{counts-length}
-use Rattle.join_parts.proofs.PartLaws.{figures-length}
+use Rattle.join_parts.proofs.PartLaws.{join-sized, figures-length}
 use Rattle.join_answer.specs.Joined.{joinedBytes}
 use Rattle.join_answer.proofs.JoinLaws.{joined-length, figures-room}
 use Rattle.answers.proofs.AnswerLaws.{fitting, too-short}
@@ -29,7 +29,7 @@ join-size-requires : tie.Need-join-size-requires
 join-size-requires c κs = (counts-length (c .before .before .before .before .before .before .before .before .before .before .args .joined .roots) _ (c .before .before .member-counts .ensures), c .before .before .before .before .before .before .before .before .before .before .pre .0)
 
 put-figures-requires : tie.Need-put-figures-requires
-put-figures-requires c κs = let e = c .before .before .join-size .ensures (c .before .before .before .before .before .before .before .before .before .before .before .before .before .args .joined .roots) (c .before .before .before .before .before .member-counts .ensures) in
+put-figures-requires c κs = let e = join-sized (c .before .before .before .before .before .before .before .before .before .before .before .before .before .args .joined .roots) _ _ _ _ (c .before .before .before .before .before .member-counts .ensures) (c .before .before .join-size .ensures) in
     let room = c .before .if1 .taken in
     omega arith
 
@@ -46,17 +46,17 @@ slice-aggregate-put-behind-figures-4 : tie.Need-slice-aggregate-put-behind-figur
 slice-aggregate-put-behind-figures-4 c = let start = c .before .before .before .before .before .before .before .before .before .before .before .before .before .before .before .before .before .before .before .before in sym (length-unmapped Bool (start .args .joined .marks) 128 (start .good .1 .1 .0 .1 .1 .1 .1 .1 .1 .1 .0 .1 .0 .1))
 
 sub-put-behind-figures : tie.Need-sub-put-behind-figures
-sub-put-behind-figures c = let e = c .before .before .before .before .before .before .before .before .before .join-size .ensures (c .before .before .before .before .before .before .before .before .before .before .before .before .before .before .before .before .before .before .before .before .args .joined .roots) (c .before .before .before .before .before .before .before .before .before .before .before .before .member-counts .ensures) in
+sub-put-behind-figures c = let e = join-sized (c .before .before .before .before .before .before .before .before .before .before .before .before .before .before .before .before .before .before .before .before .args .joined .roots) _ _ _ _ (c .before .before .before .before .before .before .before .before .before .before .before .before .member-counts .ensures) (c .before .before .before .before .before .before .before .before .before .join-size .ensures) in
     let room = c .before .before .before .before .before .before .before .before .if1 .taken in
     search needs
 
 part-put-behind-figures-start : tie.Need-part-put-behind-figures-start
-part-put-behind-figures-start c = let e = c .before .before .before .before .before .before .before .before .before .join-size .ensures (c .before .before .before .before .before .before .before .before .before .before .before .before .before .before .before .before .before .before .before .before .args .joined .roots) (c .before .before .before .before .before .before .before .before .before .before .before .before .member-counts .ensures) in
+part-put-behind-figures-start c = let e = join-sized (c .before .before .before .before .before .before .before .before .before .before .before .before .before .before .before .before .before .before .before .before .args .joined .roots) _ _ _ _ (c .before .before .before .before .before .before .before .before .before .before .before .before .member-counts .ensures) (c .before .before .before .before .before .before .before .before .before .join-size .ensures) in
     let room = c .before .before .before .before .before .before .before .before .if1 .taken in
     search needs
 
 part-put-behind-figures-end : tie.Need-part-put-behind-figures-end
-part-put-behind-figures-end c = let e = c .before .before .before .before .before .before .before .before .before .join-size .ensures (c .before .before .before .before .before .before .before .before .before .before .before .before .before .before .before .before .before .before .before .before .args .joined .roots) (c .before .before .before .before .before .before .before .before .before .before .before .before .member-counts .ensures) in
+part-put-behind-figures-end c = let e = join-sized (c .before .before .before .before .before .before .before .before .before .before .before .before .before .before .before .before .before .before .before .before .args .joined .roots) _ _ _ _ (c .before .before .before .before .before .before .before .before .before .before .before .before .member-counts .ensures) (c .before .before .before .before .before .before .before .before .before .join-size .ensures) in
     let room = c .before .before .before .before .before .before .before .before .if1 .taken in
     search needs
 
@@ -64,7 +64,7 @@ put-behind-figures-requires : tie.Need-put-behind-figures-requires
 put-behind-figures-requires c κs =
     let start = c .before .before .before .before .before .before .before .before .before .before .before .before .before .before .before .before .before .before .before .before .before in
     let m = c .before .before .before .before .before .before .before .before .before .before .before .before .before .member-counts .ensures in
-    let e = c .before .before .before .before .before .before .before .before .before .before .join-size .ensures (start .args .joined .roots) m in
+    let e = join-sized (start .args .joined .roots) _ _ _ _ m (c .before .before .before .before .before .before .before .before .before .before .join-size .ensures) in
     let room = c .before .before .before .before .before .before .before .before .before .if1 .taken in
     (m, (start .pre .0, start .pre .1, omega arith))
 
@@ -79,7 +79,7 @@ returns c = let p = c .before .before in
     let z = j .before .before .before .before .before .before .before .before .before .before .before in
     let a = z .args in
     let l = joined-length (a .s .now) (a .q) (a .joined) (a .coverages .now) (z .pre .1) in
-    let e = j .join-size .ensures (a .joined .roots) (j .before .before .before .member-counts .ensures) in
+    let e = join-sized (a .joined .roots) _ _ _ _ (j .before .before .before .member-counts .ensures) (j .join-size .ensures) in
     let room = u .before .before .if1 .taken in
     fitting _ (a .out .now) _ _ (e ∙ sym l) room (onto-part _ _ (a .out .now) _ _ 62 _ (figures-length (a .joined .selectivity) (a .joined .«match_probability») (a .joined .«residual_selectivity»)) refl (figures-room _ _ _ _ _ e room) (u .put-figures .ensures) (p .put-behind-figures .ensures))
 
@@ -87,7 +87,7 @@ returns-2 : tie.Need-returns-2
 returns-2 c = let z = c .before .before .before .before .before .before .before .before .before .before .before .before in
     let a = z .args in
     let l = joined-length (a .s .now) (a .q) (a .joined) (a .coverages .now) (z .pre .1) in
-    let e = c .before .join-size .ensures (a .joined .roots) (c .before .before .before .before .member-counts .ensures) in
+    let e = join-sized (a .joined .roots) _ _ _ _ (c .before .before .before .before .member-counts .ensures) (c .before .join-size .ensures) in
     too-short _ _ (omega arith)
 
 pub write-joined-spec : {M : Type 1} → statement M

@@ -1,6 +1,4 @@
 -- The sizes of the parts. Assumes nothing.
-use Prim.Native.Nat.{ℕ}
-use mathlib.Core.List.{List}
 use native.Mathlib.Omega.{arith}
 use Rattle.equality_pairs.proofs.MarkedLaws.{marked-below}
 use borrow.Author.Needs.{needs}
@@ -32,7 +30,7 @@ add-result-3 c = let a = c .before .before .before .before .args in
     omega arith
 
 returns : tie.Need-returns
-returns c = λ (roots : List ℕ) e. let k = c .before .classes-size .ensures .0 roots e in let m = c .marked-count .ensures in omega arith
+returns c = let k = c .before .classes-size .ensures .0 in let m = c .marked-count .ensures in omega arith
 
 pub join-size-spec : {M : Type 1} → statement M
 join-size-spec =

@@ -5,7 +5,7 @@ use Rattle.sheet.specs.Sheet.{sheetOf}
 use Rattle.class_state.specs.Places.{stateOf}
 use Rattle.join_parts.specs.Parts.{classesPart}
 use Rattle.class_state.proofs.SizeLaws.{class-count-below}
-use Rattle.class_state.proofs.CountLaws.{counts-length}
+use Rattle.class_state.proofs.CountLaws.{counts-length, counts-returned}
 use Rattle.join_parts.proofs.PartLaws.{classes-length, counted-written}
 use borrow.Author.Needs.{needs}
 use Rattle.join_parts.proofs.put_classes_part.Statement.{statement}
@@ -17,7 +17,7 @@ class-count-requires c κs = let a = c .before .before .before .before .before .
 cast-put-u16 : tie.Need-cast-put-u16
 cast-put-u16 c = let a = c .before .before .before .before .before .before .before in
     let b = class-count-below (a .args .roots .now) in
-    let e = c .class-count .ensures (a .args .roots .now) (a .pre .0) in
+    let e = c .class-count .ensures ∙ counts-returned (a .args .roots .now) _ (a .pre .0) in
     omega arith
 
 put-u16-requires : tie.Need-put-u16-requires
@@ -50,7 +50,7 @@ returns c = let p = c .before .before in
     let sheet = sheetOf (a .s .now) (a .q) in
     let state = stateOf (a .s .now) (a .q) (a .roots .now) (a .places .now) in
     let e = p .put-classes .ensures .0 in
-    (omega arith, counted-written _ _ _ _ (a .out .now) _ _ (u .before .class-count .ensures (a .roots .now) (start .pre .0) ∙ sym (classes-length sheet state)) (omega arith) (u .put-u16 .ensures) refl (p .put-classes .ensures .1))
+    (omega arith, counted-written _ _ _ _ (a .out .now) _ _ (u .before .class-count .ensures ∙ counts-returned (a .roots .now) _ (start .pre .0) ∙ sym (classes-length sheet state)) (omega arith) (u .put-u16 .ensures) refl (p .put-classes .ensures .1))
 
 pub put-classes-part-spec : {M : Type 1} → statement M
 put-classes-part-spec =

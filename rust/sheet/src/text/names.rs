@@ -5,7 +5,7 @@ use crate::values::Section;
 /// `EstimateSource`.
 pub(super) const SOURCES: [&str; 5] = ["exact", "catalog", "sketch", "derived", "default"];
 
-/// The fields of `CardinalityEstimationConfig`, and what they are by default.
+/// The fields of `CardinalityEstimationConfig`.
 pub(super) const SETTINGS: [&str; 5] = [
     "like_selectivity",
     "default_predicate_selectivity",
@@ -13,7 +13,6 @@ pub(super) const SETTINGS: [&str; 5] = [
     "unknown_scan_rows",
     "unknown_column_ndv_cap",
 ];
-pub(super) const DEFAULT_SETTINGS: [f64; 5] = [0.1, 0.25, 0.33, 1000.0, 100.0];
 
 /// `UnaryOp`.
 pub(super) const UNARY_OPS: [&str; 4] = ["not", "is_null", "is_not_null", "negate"];

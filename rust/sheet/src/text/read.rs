@@ -2,10 +2,10 @@
 
 use super::error::{TextError, one_of, quoted};
 use super::lines::Lines;
-use super::names::{AFTER_ROWS, DEFAULT_SETTINGS, SETTINGS, heading};
+use super::names::{AFTER_ROWS, SETTINGS, heading};
 use super::records;
 use super::words::{Line, Words};
-use crate::values::{Estimate, Expression, Section, Sheet, Sketch};
+use crate::values::{DEFAULT_SETTINGS, Estimate, Expression, Section, Sheet, Sketch};
 
 type Taken<T> = Result<T, TextError>;
 
@@ -60,18 +60,7 @@ impl<'a> Reader<'a> {
         let Some(Section::Rows) = self.heading(&[Section::Rows]) else {
             return Err(self.error(expected));
         };
-        Ok(Sheet {
-            rows: self.rows()?,
-            settings: DEFAULT_SETTINGS,
-            sketches: Vec::new(),
-            tables: Vec::new(),
-            keys: Vec::new(),
-            columns: [Vec::new(), Vec::new()],
-            classes: [Vec::new(), Vec::new()],
-            expressions: Vec::new(),
-            operands: Vec::new(),
-            conjuncts: Vec::new(),
-        })
+        Ok(Sheet::bare(self.rows()?, DEFAULT_SETTINGS))
     }
 
     /// The mistake that something else stands on the next line, or that there is none.

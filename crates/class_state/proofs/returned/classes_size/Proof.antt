@@ -1,23 +1,19 @@
 -- Each turn measures the class at one root, if it is returned. Assumes nothing.
-use Prim.Native.Nat.{ℕ, _≤_, _-_, _+_, _*_}
-use mathlib.Core.Path.{_≡_}
-use mathlib.Core.List.{List}
+use Prim.Native.Nat.{_≤_, _-_, _*_}
 use native.Mathlib.Omega.{arith}
-use Rattle.records.specs.Lists.{tabulate}
-use Rattle.class_state.specs.State.{columnLimit}
-use Rattle.class_state.specs.Sizes.{memberCount, classesSize}
-use Rattle.class_state.proofs.ReturnedLaws.{sizeLeft, size-left-first, size-left-next, size-left-none}
+use Rattle.class_state.specs.Sizes.{returnedSize}
+use Rattle.class_state.proofs.CountLaws.{SumRest, sum-first, sum-next, sum-all}
 use Rattle.class_state.proofs.returned.classes_size.Statement.{statement}
 use Rattle.class_state.proofs.returned.classes_size.Tie as tie
 
 abbrev Inv-loop : tie.InvT-loop
-Inv-loop counts size₀ root₀ size root = (root ≤ 128) × (size ≤ 538 * root) × ((roots : List ℕ) → counts ≡ tabulate (memberCount roots) columnLimit → size + sizeLeft roots root ≡ classesSize roots)
+Inv-loop counts size₀ root₀ size root = (root ≤ 128) × (size ≤ 538 * root) × SumRest returnedSize counts size root
 
 abbrev μ-loop : tie.MeasureT-loop
 μ-loop counts size₀ root₀ size root = 128 - root
 
 loop-holds : tie.Need-loop-holds Inv-loop μ-loop
-loop-holds c = (omega arith, omega arith, λ (roots : List ℕ) e. let f = size-left-first roots in omega arith)
+loop-holds c = (omega arith, omega arith, sum-first _ _)
 
 shared-slice-read-returned-size : tie.Need-shared-slice-read-returned-size Inv-loop μ-loop
 shared-slice-read-returned-size c = let h = c .before .loop-test .taken in
@@ -40,11 +36,12 @@ loop-less : tie.Need-loop-less Inv-loop μ-loop
 loop-less c = let h = c .before .before .loop-test .taken in omega arith
 
 loop-again : tie.Need-loop-again Inv-loop μ-loop
-loop-again c = let h = c .before .before .loop-test .taken in
+loop-again c = let start = c .before .before .before .before .before .args .counts .now in
+    let h = c .before .before .loop-test .taken in
     let l = c .before .before .before .loop in
     let i = l .inv .1 in
     let b = c .returned-size .ensures .1 in
-    (omega arith, omega arith, λ (roots : List ℕ) e. let n = size-left-next roots _ (l .root) _ e h (c .returned-size .ensures .0) in let k = l .inv .2 roots e in omega arith)
+    (omega arith, omega arith, sum-next _ start (l .size) (l .root) _ (let s = c .before .before .before .before .before .pre in omega arith) (c .returned-size .ensures .0) (l .inv .2))
 
 cast-result : tie.Need-cast-result Inv-loop μ-loop
 cast-result c = omega arith
@@ -52,7 +49,7 @@ cast-result c = omega arith
 returns : tie.Need-returns Inv-loop μ-loop
 returns c = let l = c .before .loop in
     let i = l .inv in
-    (λ (roots : List ℕ) e. let n = size-left-none roots (l .root) (c .loop-test .left) in let k = l .inv .2 roots e in omega arith, let a = i .0 in let b = i .1 in omega arith)
+    (sum-all _ (c .before .before .before .args .counts .now) (l .size) (l .root) (let s = c .before .before .before .pre in let h = c .loop-test .left in omega arith) (l .inv .2), let a = i .0 in let b = i .1 in omega arith)
 
 pub classes-size-spec : {M : Type 1} → statement M
 classes-size-spec =

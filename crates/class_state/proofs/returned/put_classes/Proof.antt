@@ -7,7 +7,7 @@ use borrow.Author.Needs.{needs}
 use lib.ListN.{length}
 use Rattle.le.specs.Fields.{onto}
 use Rattle.class_state.specs.Sizes.{classesSize}
-use Rattle.class_state.proofs.CountLaws.{count-at, counts-length}
+use Rattle.class_state.proofs.CountLaws.{count-at, counts-length, counts-size}
 use Rattle.number_bytes.proofs.FilledLaws.{Filled, filled-first, filled-within, filled-room, filled-part, filled-next, filled-none, filled-length, filled-all}
 use Rattle.class_state.proofs.ReturnedLaws.{bytesLeft, returnedBytes, returned-length, bytes-left-first, bytes-left-size, bytes-left-room, bytes-left-next, bytes-left-below}
 use Rattle.class_state.proofs.returned.put_classes.Statement.{statement}
@@ -23,7 +23,7 @@ classes-size-requires : tie.Need-classes-size-requires Inv-loop μ-loop
 classes-size-requires c κs = let start = c .before .before .before .before .before in counts-length (start .args .roots .now) _ (start .pre .0)
 
 loop-holds : tie.Need-loop-holds Inv-loop μ-loop
-loop-holds c = let start = c .before .before .before .before .before .before in (c .classes-size .ensures .0 (start .args .roots .now) (start .pre .0), refl, omega arith, filled-first _ _ _ 0 refl)
+loop-holds c = let start = c .before .before .before .before .before .before in (c .classes-size .ensures .0 ∙ counts-size (start .args .roots .now) _ (start .pre .0), refl, omega arith, filled-first _ _ _ 0 refl)
 
 cast-put-returned : tie.Need-cast-put-returned Inv-loop μ-loop
 cast-put-returned c = let start = c .before .before .before .before .before .before .before .before in
