@@ -10,12 +10,34 @@ use cut::cutting::{Cut, cut_all, write_checked};
 use std::path::{Path, PathBuf};
 use std::{env, fs, process};
 
-fn source_folder() -> PathBuf {
+/// The folder, and how it was come by.
+fn source_folder() -> (PathBuf, &'static str) {
     println!("cargo::rerun-if-env-changed=OPTD_SOURCE");
-    match env::var_os("OPTD_SOURCE") {
-        Some(folder) => PathBuf::from(folder),
-        None => Path::new(env!("CARGO_MANIFEST_DIR")).join("../../../shared/docs/src"),
+    let named = env::var_os("OPTD_SOURCE").filter(|folder| !folder.is_empty());
+    if let Some(folder) = named {
+        return (PathBuf::from(folder), "which OPTD_SOURCE names");
     }
+    let beside = Path::new(env!("CARGO_MANIFEST_DIR")).ancestors().nth(3);
+    let folder = beside.unwrap_or(Path::new("/")).join("shared/docs/src");
+    (
+        folder,
+        "beside the repository; OPTD_SOURCE can name another",
+    )
+}
+
+/// The folder of the files, if it is there.
+fn files() -> Result<PathBuf, String> {
+    let (folder, how) = source_folder();
+    let files = folder.join("optd/core/src");
+    println!("cargo::rerun-if-changed={}", files.display());
+    if files.is_dir() {
+        return Ok(files);
+    }
+    Err(format!(
+        "the optimizer's source is not there: expected the folder optd/core/src of cmu-db/optd at 429db6b83d \
+         in {} ({how})",
+        folder.display()
+    ))
 }
 
 /// The files, their sums and how many items were cut, as a Rust table.
@@ -37,10 +59,7 @@ fn sums(cuts: &[Cut]) -> String {
 
 fn write_all(out: &Path) -> Result<(), String> {
     let list = fs::read_to_string("items.txt").map_err(|e| format!("items.txt: {e}"))?;
-    let folder = source_folder().join("optd/core/src");
-    println!("cargo::rerun-if-changed={}", folder.display());
-    let cuts = cut_all(&folder, &list)
-        .map_err(|why| format!("{why} (OPTD_SOURCE can name the folder of the source)"))?;
+    let cuts = cut_all(&files()?, &list)?;
     for cut in &cuts {
         write_checked(&out.join(cut.file), cut)?;
     }

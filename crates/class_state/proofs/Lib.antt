@@ -1,4 +1,3 @@
-pub mod DistinctLaws
 pub mod MappedLaws
 pub mod UnionLaws
 pub mod ApartLaws

@@ -15,10 +15,10 @@ use Rattle.estimate.proofs.EstimateLaws.{estimate-length}
 use Rattle.number_bytes.specs.Numbers.{numbersBytes}
 use Rattle.number_bytes.proofs.NumberLaws.{numbers-length}
 use Rattle.records.specs.Classes.{ColumnEquivalenceClass}
-use Rattle.sheet.specs.Sheet.{Sheet}
 use Rattle.selection.specs.Selected.{selected}
 use Rattle.selection.proofs.SelectedLaws.{Rising, none, next, oneSelected, selected-in, selected-length, selected-rising, selected-step, selected-end}
-use Rattle.class_state.specs.State.{ClassState, hasRoot, members, isReturned, returnedRoots, classAtRoot, intoClasses}
+use Rattle.class_state.specs.declared.EquivalenceClassState.{EquivalenceClassState}
+use Rattle.class_state.specs.State.{hasRoot, members, isReturned, returnedRoots, classAtRoot, intoClasses}
 use Rattle.class_state.specs.Bytes.{classBytes, classesBytes}
 use Rattle.class_state.specs.Sizes.{memberCount, classSize, sizeAtRoot, sumOver, classesSize}
 
@@ -45,18 +45,18 @@ class-length class =
     let n = numbers-length c in
     omega arith
 
-module _ (sheet : Sheet) (state : ClassState) where
+module _ (state : EquivalenceClassState) where
   abbrev rootsBytes : List ℕ → List ℕ
-  rootsBytes l = classesBytes (map (classAtRoot sheet state) l)
+  rootsBytes l = classesBytes (map (classAtRoot state) l)
 
   roots-size : (l : List ℕ) → length (rootsBytes l) ≡ sumOver (sizeAtRoot (state .roots)) l
   unfolding classesBytes sumOver
   roots-size [] = refl
   roots-size (root ∷ l) =
-      length-append (classBytes (classAtRoot sheet state root)) (rootsBytes l)
-      ∙ (λ i. class-length (classAtRoot sheet state root) i + roots-size l i)
+      length-append (classBytes (classAtRoot state root)) (rootsBytes l)
+      ∙ (λ i. class-length (classAtRoot state root) i + roots-size l i)
 
-  pub classes-size : length (classesBytes (intoClasses sheet state)) ≡ classesSize (state .roots)
+  pub classes-size : length (classesBytes (intoClasses state)) ≡ classesSize (state .roots)
   unfolding intoClasses classesSize
   classes-size = roots-size (returnedRoots (state .roots))
 

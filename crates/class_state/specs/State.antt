@@ -1,9 +1,10 @@
 -- `EquivalenceClassState` of the source's analysis.rs. Where the source keeps a parent for each column and follows it up, each column has its root here; columns that neither a class nor an equality names are alone and are not returned. Definitions only.
-use Prim.Native.Nat.{ℕ}
+use Prim.Native.Nat.{ℕ, _<_}
 use mathlib.Core.Bool.{Bool, cond}
 use mathlib.Core.List.{List, [], _∷_, map}
 use lib.Dec.{eqb, leb}
 use lib.ListN.{length, getD, set}
+use Rattle.float.specs.Order.{f64Zero}
 use Rattle.estimate.specs.Estimates.{default, minByValue}
 use Rattle.estimate.specs.declared.Estimate.{Estimate}
 use Rattle.records.specs.Lists.{tabulateFrom, tabulate, itself}
@@ -13,55 +14,67 @@ use Rattle.lookup.specs.Lookup.{profileAndRows}
 use Rattle.lookup.specs.declared.profiles.ProfileAndRows.{ProfileAndRows}
 use Rattle.lookup.specs.declared.profiles.ProfileAndRows.the-variants.{Absent, Present}
 use Rattle.selection.specs.Selected.{selected}
+use Rattle.class_state.specs.declared.EquivalenceClassState.{EquivalenceClassState}
 
 -- columns are below it
 abbrev pub columnLimit : ℕ
 columnLimit = 128
 
-pub record ClassState : Type 0 where
-  -- of each column, the column at its root
-  pub roots : List ℕ
-  -- of each column that is a root, its class's distinct
-  pub distincts : List Estimate
+-- every column's root is a column
+abbrev pub Rooted : List ℕ → Type 0
+Rooted roots = (column : ℕ) → getD roots column 0 < columnLimit
 
 -- ---- one column
 
-abbrev pub find : ClassState → ℕ → ℕ
+abbrev pub find : EquivalenceClassState → ℕ → ℕ
 find state column = getD (state .roots) column 0
 
-abbrev pub equivalent : ClassState → ℕ → ℕ → Bool
+abbrev pub equivalent : EquivalenceClassState → ℕ → ℕ → Bool
 equivalent state left right = eqb (find state left) (find state right)
 
--- of a column with no profile
-unfoldable pub unknownDistinct : Sheet → Estimate
+-- past the end, which no root reaches: 128 distincts are there
+unfoldable pub noDistinct : Estimate
 unfolding default
-unknownDistinct sheet = default (sheet .settings .«unknown_column_ndv_cap»)
+noDistinct = default f64Zero
 
-abbrev pub rootDistinct : Sheet → ClassState → ℕ → Estimate
-rootDistinct sheet state root = getD (state .distincts) root (unknownDistinct sheet)
+abbrev pub rootDistinct : EquivalenceClassState → ℕ → Estimate
+rootDistinct state root = getD (state .distincts) root noDistinct
 
-abbrev pub classDistinct : Sheet → ClassState → ℕ → Estimate
-classDistinct sheet state column = rootDistinct sheet state (find state column)
+abbrev pub classDistinct : EquivalenceClassState → ℕ → Estimate
+classDistinct state column = rootDistinct state (find state column)
 
 -- ---- union
 
 abbrev pub moved : ℕ → ℕ → ℕ → ℕ
 moved from to root = cond (eqb root from) to root
 
+-- of two classes made one
+abbrev pub unionDistinct : Estimate → Estimate → Estimate → Estimate
+unionDistinct left right distinct = minByValue (minByValue left right) distinct
+
+-- of the class that stays, where both may be one already
+abbrev pub united : Bool → Estimate → Estimate → Estimate → Estimate
+united same left right distinct = cond same left (unionDistinct left right distinct)
+
 -- the class at the root `from` goes under the root `to`
-unfoldable pub under : Sheet → ClassState → ℕ → ℕ → Estimate → ClassState
-unfolding unknownDistinct minByValue
-under sheet state to from distinct = record {
+unfoldable pub under : EquivalenceClassState → ℕ → ℕ → Estimate → EquivalenceClassState
+unfolding noDistinct minByValue
+under state to from distinct = record {
   roots = map (moved from to) (state .roots);
-  distincts = set (state .distincts) to (minByValue (minByValue (rootDistinct sheet state to) (rootDistinct sheet state from)) distinct);
+  distincts = set (state .distincts) to (unionDistinct (rootDistinct state to) (rootDistinct state from) distinct);
 }
 
 -- the right root goes under the left
-unfoldable pub union : Sheet → ClassState → ℕ → ℕ → Estimate → ClassState
+unfoldable pub union : EquivalenceClassState → ℕ → ℕ → Estimate → EquivalenceClassState
 unfolding under
-union sheet state left right distinct = cond (equivalent state left right) state (under sheet state (find state left) (find state right) distinct)
+union state left right distinct = cond (equivalent state left right) state (under state (find state left) (find state right) distinct)
 
 -- ---- from the profiles
+
+-- of a column with no profile
+unfoldable pub unknownDistinct : Sheet → Estimate
+unfolding default
+unknownDistinct sheet = default (sheet .settings .«unknown_column_ndv_cap»)
 
 abbrev pub ownDistinct : Sheet → ProfileAndRows → Estimate
 ownDistinct sheet Absent = unknownDistinct sheet
@@ -71,35 +84,35 @@ abbrev pub columnDistinct : Sheet → ℕ → Estimate
 columnDistinct sheet column = ownDistinct sheet (profileAndRows sheet column)
 
 -- every column alone
-unfoldable pub apart : Sheet → ClassState
+unfoldable pub apart : Sheet → EquivalenceClassState
 unfolding tabulateFrom unknownDistinct profileAndRows
 apart sheet = record { roots = tabulate itself columnLimit; distincts = tabulate (columnDistinct sheet) columnLimit }
 
-unfoldable pub unionEach : Sheet → ClassState → ℕ → List ℕ → Estimate → ClassState
+unfoldable pub unionEach : EquivalenceClassState → ℕ → List ℕ → Estimate → EquivalenceClassState
 unfolding union
-unionEach sheet state first [] distinct = state
-unionEach sheet state first (column ∷ columns) distinct = unionEach sheet (union sheet state first column distinct) first columns distinct
+unionEach state first [] distinct = state
+unionEach state first (column ∷ columns) distinct = unionEach (union state first column distinct) first columns distinct
 
 -- the class's distinct overwrites the one at its first column's root
-unfoldable pub overwritten : ClassState → ℕ → Estimate → ClassState
+unfoldable pub overwritten : EquivalenceClassState → ℕ → Estimate → EquivalenceClassState
 overwritten state first distinct = record { roots = state .roots; distincts = set (state .distincts) (find state first) distinct }
 
 -- a class of fewer than two columns is passed over
-unfoldable pub withColumns : Sheet → ClassState → List ℕ → Estimate → ClassState
+unfoldable pub withColumns : EquivalenceClassState → List ℕ → Estimate → EquivalenceClassState
 unfolding unionEach overwritten
-withColumns sheet state [] distinct = state
-withColumns sheet state (first ∷ []) distinct = state
-withColumns sheet state (first ∷ second ∷ columns) distinct = unionEach sheet (overwritten state first distinct) first (second ∷ columns) distinct
+withColumns state [] distinct = state
+withColumns state (first ∷ []) distinct = state
+withColumns state (first ∷ second ∷ columns) distinct = unionEach (overwritten state first distinct) first (second ∷ columns) distinct
 
-unfoldable pub withClasses : Sheet → ClassState → List ColumnEquivalenceClass → ClassState
+unfoldable pub withClasses : EquivalenceClassState → List ColumnEquivalenceClass → EquivalenceClassState
 unfolding withColumns
-withClasses sheet state [] = state
-withClasses sheet state (class ∷ classes) = withClasses sheet (withColumns sheet state (class .columns) (class .distinct)) classes
+withClasses state [] = state
+withClasses state (class ∷ classes) = withClasses (withColumns state (class .columns) (class .distinct)) classes
 
 -- the left classes, then the right ones
-unfoldable pub fromProfiles : Sheet → ClassState
+unfoldable pub fromProfiles : Sheet → EquivalenceClassState
 unfolding apart withClasses
-fromProfiles sheet = withClasses sheet (withClasses sheet (apart sheet) (sheet .leftClasses)) (sheet .rightClasses)
+fromProfiles sheet = withClasses (withClasses (apart sheet) (sheet .leftClasses)) (sheet .rightClasses)
 
 -- ---- what is returned
 
@@ -117,10 +130,10 @@ unfoldable pub returnedRoots : List ℕ → List ℕ
 unfolding selected members
 returnedRoots roots = selected (isReturned roots) 0 columnLimit
 
-abbrev pub classAtRoot : Sheet → ClassState → ℕ → ColumnEquivalenceClass
-classAtRoot sheet state root = record { columns = members (state .roots) root; distinct = rootDistinct sheet state root }
+abbrev pub classAtRoot : EquivalenceClassState → ℕ → ColumnEquivalenceClass
+classAtRoot state root = record { columns = members (state .roots) root; distinct = rootDistinct state root }
 
 -- classes of two columns or more, ascending by the column at their root
-unfoldable pub intoClasses : Sheet → ClassState → List ColumnEquivalenceClass
-unfolding members returnedRoots unknownDistinct
-intoClasses sheet state = map (classAtRoot sheet state) (returnedRoots (state .roots))
+unfoldable pub intoClasses : EquivalenceClassState → List ColumnEquivalenceClass
+unfolding members returnedRoots noDistinct
+intoClasses state = map (classAtRoot state) (returnedRoots (state .roots))

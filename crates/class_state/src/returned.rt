@@ -5,22 +5,17 @@ ghost use mathlib.Core.List.{[]};
 ghost use Prim.Native.Nat.{_*_, _≤_};
 ghost use lib.ListN.{length};
 ghost use Rattle.le.specs.Fields.{onto};
-ghost use Rattle.records.specs.Lists.{tabulate};
-ghost use Rattle.sheet.specs.Sheet.{sheetOf};
-ghost use Rattle.class_state.specs.State.{columnLimit, isReturned, classAtRoot, intoClasses};
-ghost use Rattle.class_state.specs.Places.{stateOf};
-ghost use Rattle.class_state.specs.Bytes.{classBytes, classesBytes};
-ghost use Rattle.class_state.specs.Sizes.{memberCount, returnedSize, sizeAtRoot, returnedCount, countsSize, classesSize};
-use crate::distincts::distinct_at;
+ghost use Rattle.class_state.specs.State.{columnLimit, members, isReturned};
+ghost use Rattle.class_state.specs.Bytes.{classBytes};
+ghost use Rattle.class_state.specs.Sizes.{memberCount, returnedSize, sizeAtRoot, returnedCount, countsSize};
 use crate::members::put_members;
-use crate::slots::place_of;
+use estimate::Estimate;
 use estimate::bytes::put_estimate;
 use float::integers::one_if;
 use le::writes::put_u16;
-use sheet::Sections;
 
 // How many classes are returned, by how many columns each root has.
-pub fn class_count(counts: &[u8]) -> usize
+pub fn returned_count(counts: &[u8]) -> usize
     requires { ⌜ length (now counts) ≡ columnLimit ⌝ }
     ensures { λ r. ⌜ r ≡ returnedCount (now (counts .entry)) ⌝ }
 {
@@ -44,7 +39,7 @@ fn returned_size(count: u8) -> u32
 }
 
 // How many bytes they take.
-pub fn classes_size(counts: &[u8]) -> usize
+pub fn counts_size(counts: &[u8]) -> usize
     requires { ⌜ length (now counts) ≡ columnLimit ⌝ }
     ensures { λ r. ⌜ r ≡ countsSize (now (counts .entry)) ⌝ }
     ensures { λ r. ⌜ r ≤ 128 * 538 ⌝ }
@@ -59,71 +54,24 @@ pub fn classes_size(counts: &[u8]) -> usize
 }
 
 // The class at a root that has so many members.
-fn put_class(
-    s: &[u8],
-    q: Sections,
-    roots: &[u8],
-    places: &[usize],
-    root: u8,
-    count: u8,
-    out: &mut [u8],
-) -> usize
+fn put_class(roots: &[u8], distinct: Estimate, root: u8, count: u8, out: &mut [u8]) -> usize
     requires { ⌜ (count ≡ memberCount (now roots) root) × (sizeAtRoot (now roots) root ≤ length (now out)) ⌝ }
     ensures { λ r. ⌜ r ≡ sizeAtRoot (now (roots .entry)) root ⌝ }
-    ensures { λ _. ⌜ now (out .exit) ≡ onto (classBytes (classAtRoot (sheetOf (now (s .entry)) q) (stateOf (now (s .entry)) q (now (roots .entry)) (now (places .entry))) root)) (now (out .entry)) ⌝ }
+    ensures { λ _. ⌜ now (out .exit) ≡ onto (classBytes (record { columns = members (now (roots .entry)) root; distinct = distinct })) (now (out .entry)) ⌝ }
 {
     put_u16(out, count as u16);
-    let distinct = distinct_at(s, q, place_of(places, root));
     put_estimate(&mut out[2..], distinct);
     28 + put_members(roots, root, count, &mut out[28..])
 }
 
 // The same, if it is returned.
-fn put_returned(
-    s: &[u8],
-    q: Sections,
-    roots: &[u8],
-    places: &[usize],
-    root: u8,
-    count: u8,
-    out: &mut [u8],
-) -> usize
+pub fn put_returned(roots: &[u8], distinct: Estimate, root: u8, count: u8, out: &mut [u8]) -> usize
     requires { ⌜ (count ≡ memberCount (now roots) root) × (returnedSize (memberCount (now roots) root) ≤ length (now out)) ⌝ }
     ensures { λ r. ⌜ r ≡ returnedSize (memberCount (now (roots .entry)) root) ⌝ }
-    ensures { λ _. ⌜ now (out .exit) ≡ onto (cond (isReturned (now (roots .entry)) root) (classBytes (classAtRoot (sheetOf (now (s .entry)) q) (stateOf (now (s .entry)) q (now (roots .entry)) (now (places .entry))) root)) []) (now (out .entry)) ⌝ }
+    ensures { λ _. ⌜ now (out .exit) ≡ onto (cond (isReturned (now (roots .entry)) root) (classBytes (record { columns = members (now (roots .entry)) root; distinct = distinct })) []) (now (out .entry)) ⌝ }
 {
     if count >= 2 {
-        return put_class(s, q, roots, places, root, count, out);
+        return put_class(roots, distinct, root, count, out);
     }
     0
-}
-
-pub fn put_classes(
-    s: &[u8],
-    q: Sections,
-    roots: &[u8],
-    counts: &[u8],
-    places: &[usize],
-    out: &mut [u8],
-) -> usize
-    requires { ⌜ (now counts ≡ tabulate (memberCount (now roots)) columnLimit) × (classesSize (now roots) ≤ length (now out)) ⌝ }
-    ensures { λ r. ⌜ r ≡ classesSize (now (roots .entry)) ⌝ }
-    ensures { λ _. ⌜ now (out .exit) ≡ onto (classesBytes (intoClasses (sheetOf (now (s .entry)) q) (stateOf (now (s .entry)) q (now (roots .entry)) (now (places .entry))))) (now (out .entry)) ⌝ }
-{
-    let size = classes_size(counts);
-    let mut at: usize = 0;
-    let mut root: u8 = 0;
-    while at < size {
-        at += put_returned(
-            s,
-            q,
-            roots,
-            places,
-            root,
-            counts[root as usize],
-            &mut out[at..],
-        );
-        root += 1;
-    }
-    at
 }

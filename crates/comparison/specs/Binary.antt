@@ -5,11 +5,9 @@ use Rattle.records.specs.declared.expressions.BinaryOp.{BinaryOp}
 use Rattle.sheet.specs.Sheet.{Sheet}
 use Rattle.lookup.specs.Lookup.{expressionOf}
 use Rattle.range.specs.Selectivity.{defaultEstimate}
-use Rattle.parts.specs.Parts.{isNullSafe, columnLiteral, columnEqualityFromParts}
+use Rattle.parts.specs.Parts.{ColumnLiteral, NoPair, Pair, isNullSafe, columnLiteral, columnEqualityFromParts}
 use Rattle.comparison.specs.Literal.{literalSelectivity}
 use Rattle.comparison.specs.Columns.{columnsSelectivity}
-use Rattle.parts.specs.declared.literals.ColumnLiteral.{ColumnLiteral}
-use Rattle.parts.specs.declared.literals.ColumnLiteral.the-variants.{Absent as NoPair, Present as Pair}
 use Rattle.parts.specs.declared.equalities.ColumnEquality.{ColumnEquality}
 use Rattle.parts.specs.declared.equalities.ColumnEquality.the-variants.{Absent, Present}
 

@@ -8,18 +8,18 @@ use native.Mathlib.Omega.{arith}
 use borrow.Author.Tests.{eq-eqb, eqb-true, leb-true, le-leb}
 use lib.ListN.{length, getD, length-map}
 use Rattle.records.specs.Classes.{ColumnEquivalenceClass}
-use Rattle.sheet.specs.Sheet.{Sheet}
 use Rattle.selection.specs.Selected.{selected}
 use Rattle.selection.proofs.SelectedLaws.{selected-in, in-selected, selected-length, selected-rising, rising-once, rising-two, two-members}
-use Rattle.class_state.specs.State.{ClassState, find, hasRoot, members, isReturned, returnedRoots, classAtRoot, intoClasses}
+use Rattle.class_state.specs.State.{find, hasRoot, members, isReturned, returnedRoots, classAtRoot, intoClasses}
+use Rattle.class_state.specs.declared.EquivalenceClassState.{EquivalenceClassState}
 use Rattle.equality_pairs.specs.Pairs.{equalityPairs}
 use Rattle.equality_pairs.specs.NonNull.{isMarked, nonNullMarks, markedColumns}
 use Rattle.equality_pairs.proofs.PairLaws.{pairs-length}
-use Rattle.join.specs.Join.{estimateOf, joinSelectivityFromConjuncts}
+use Rattle.join.specs.Join.{JoinSelectivityEstimate, joinEstimate, joinSelectivityFromConjuncts}
 use Rattle.edge_fold.proofs.CountLaws.{coverage-count}
-use Rattle.join_answer.specs.Join.{joinBytes, joinOf}
+use Rattle.join_answer.specs.Join.{joinBytes}
 use Rattle.demand.specs.Reader.{blocks, nonNulls}
-use Rattle.demand.specs.Claim.{Columns, Fact, Linked, LeadsToOrdinary, Block, ShareBlock, OneJoin}
+use Rattle.demand.specs.Claim.{Columns, Join, Fact, Linked, LeadsToOrdinary, Block, ShareBlock, OneJoin}
 use Rattle.demand.proofs.Kept.{Kept}
 use Rattle.demand.proofs.LinkLaws.{joinState, root-law, root-below, chain-below}
 use Rattle.demand.proofs.WalkLaws.{walk-law}
@@ -66,12 +66,15 @@ listed-at f (x ∷ l) (suc i) a m = let h = listed-at f l i a m in (next i (leng
 
 -- ---- the answer of a join
 
-module _ (sheet : Sheet) (kept : Kept sheet) where
-  abbrev state : ClassState
-  state = joinState sheet
+module _ (join : Join) (kept : Kept join) where
+  abbrev estimate : JoinSelectivityEstimate
+  estimate = joinSelectivityFromConjuncts (join .sheet) (join .conjuncts)
+
+  abbrev state : EquivalenceClassState
+  state = joinState join
 
   abbrev answer : List ℕ
-  answer = joinBytes (joinOf sheet)
+  answer = joinBytes estimate
 
   abbrev returned : List ℕ
   returned = returnedRoots (state .roots)
@@ -79,31 +82,31 @@ module _ (sheet : Sheet) (kept : Kept sheet) where
   abbrev columnsAt : ℕ → Columns
   columnsAt root = members (state .roots) root
 
-  class-short : (class : ColumnEquivalenceClass) → List·Memᴰ class (intoClasses sheet state) → Short (class .columns)
+  class-short : (class : ColumnEquivalenceClass) → List·Memᴰ class (intoClasses state) → Short (class .columns)
   unfolding intoClasses members
   class-short class m =
-      let r = Memᴰ·of-map (classAtRoot sheet state) returned m in
+      let r = Memᴰ·of-map (classAtRoot state) returned m in
       subst (λ (c : ColumnEquivalenceClass). Short (c .columns)) (r .2) (selected-short (hasRoot (state .roots) (r .0)))
 
-  short : ShortJoin (joinOf sheet)
-  unfolding joinSelectivityFromConjuncts estimateOf intoClasses returnedRoots markedColumns
+  short : ShortJoin estimate
+  unfolding joinSelectivityFromConjuncts joinEstimate intoClasses returnedRoots markedColumns
   short = record {
-    classCount = subst (λ (n : ℕ). n < 65536) (sym (length-map returned (classAtRoot sheet state))) (selected-short (isReturned (state .roots)) .count);
+    classCount = subst (λ (n : ℕ). n < 65536) (sym (length-map returned (classAtRoot state))) (selected-short (isReturned (state .roots)) .count);
     classes = class-short;
-    coverageCount = few _ _ _ (coverage-count sheet (equalityPairs sheet (sheet .conjuncts))) (pairs-length sheet (sheet .conjuncts)) (kept .conjunctCount);
-    nonNull = selected-short (isMarked (nonNullMarks (equalityPairs sheet (sheet .conjuncts))));
+    coverageCount = few _ _ _ (coverage-count (join .sheet) (equalityPairs (join .sheet) (join .conjuncts))) (pairs-length (join .sheet) (join .conjuncts)) (kept .conjunctCount);
+    nonNull = selected-short (isMarked (nonNullMarks (equalityPairs (join .sheet) (join .conjuncts))));
   }
     where
       few : (a b c : ℕ) → a ≤ b → b ≤ c → c ≤ 64 → a < 65536
       few a b c h k l = omega arith
 
   blocks-are : blocks answer ≡ map columnsAt returned
-  unfolding joinSelectivityFromConjuncts estimateOf intoClasses
-  blocks-are = blocks-read (joinOf sheet) short ∙ map-map columnsOf (classAtRoot sheet state) returned
+  unfolding joinSelectivityFromConjuncts joinEstimate intoClasses
+  blocks-are = blocks-read estimate short ∙ map-map columnsOf (classAtRoot state) returned
 
-  non-nulls-are : nonNulls answer ≡ markedColumns (nonNullMarks (equalityPairs sheet (sheet .conjuncts)))
-  unfolding joinSelectivityFromConjuncts estimateOf
-  non-nulls-are = non-nulls-read (joinOf sheet) short
+  non-nulls-are : nonNulls answer ≡ markedColumns (nonNullMarks (equalityPairs (join .sheet) (join .conjuncts)))
+  unfolding joinSelectivityFromConjuncts joinEstimate
+  non-nulls-are = non-nulls-read estimate short
 
   block-root : (k : Columns) → Block answer k → (root : ℕ) × List·Memᴰ root returned × (columnsAt root ≡ k)
   block-root k m = Memᴰ·of-map columnsAt returned (subst (λ (K : List Columns). List·Memᴰ k K) blocks-are m)
@@ -122,25 +125,25 @@ module _ (sheet : Sheet) (kept : Kept sheet) where
       let f = member-root (state .roots) (getD returned j 0) a (v .1) .1 in
       rising-once (selected-rising (isReturned (state .roots)) 0 128) i j (u .0) (v .0) (sym e ∙ f)
 
-  linked : (a b : ℕ) → ShareBlock answer a b → Linked (Fact sheet) a b
+  linked : (a b : ℕ) → ShareBlock answer a b → Linked (Fact join) a b
   linked a b (k, m, p, q) =
       let r = block-root k m in
       let u = member-root (state .roots) (r .0) a (subst (λ (l : Columns). List·Memᴰ a l) (sym (r .2)) p) in
       let v = member-root (state .roots) (r .0) b (subst (λ (l : Columns). List·Memᴰ b l) (sym (r .2)) q) in
-      root-law sheet kept a b (u .0) (v .0) .0 (u .1 ∙ sym (v .1))
+      root-law join kept a b (u .0) (v .0) .0 (u .1 ∙ sym (v .1))
 
-  shared : (a b : ℕ) → a ≢ b → Linked (Fact sheet) a b → ShareBlock answer a b
+  shared : (a b : ℕ) → a ≢ b → Linked (Fact join) a b → ShareBlock answer a b
   shared a b n l =
-      let h = chain-below sheet kept l n in
+      let h = chain-below join kept l n in
       let p = root-member (state .roots) (find state a) a (h .0) refl in
-      let q = root-member (state .roots) (find state a) b (h .1) (sym (root-law sheet kept a b (h .0) (h .1) .1 l)) in
-      let r = root-returned (state .roots) (find state a) a b (root-below sheet kept a (h .0)) p q n in
+      let q = root-member (state .roots) (find state a) b (h .1) (sym (root-law join kept a b (h .0) (h .1) .1 l)) in
+      let r = root-returned (state .roots) (find state a) a b (root-below join kept a (h .0)) p q n in
       (columnsAt (find state a), subst (λ (K : List Columns). List·Memᴰ (columnsAt (find state a)) K) (sym blocks-are) (Memᴰ·map columnsAt r), p, q)
 
-  pub one-join : OneJoin sheet (joinBytes (joinOf sheet))
+  pub one-join : OneJoin join (joinBytes (joinSelectivityFromConjuncts (join .sheet) (join .conjuncts)))
   one-join = record {
     two = two;
     apart = apart;
     share = λ (a b : ℕ) (n : a ≢ b). (linked a b, shared a b n);
-    nonNull = λ (a : ℕ). subst (λ (l : List ℕ). List·Memᴰ a l ↔ LeadsToOrdinary sheet a) (sym non-nulls-are) (walk-law sheet kept a);
+    nonNull = λ (a : ℕ). subst (λ (l : List ℕ). List·Memᴰ a l ↔ LeadsToOrdinary join a) (sym non-nulls-are) (walk-law join kept a);
   }

@@ -9,15 +9,16 @@ use lib.ListN.{length, take, drop}
 use lib.Seq.{take-at}
 use Rattle.le.specs.Fields.{onto}
 use Rattle.sheet.specs.Check.{sheetRefusal, check}
-use Rattle.sheet.specs.Sheet.{sheetIn}
+use Rattle.sheet.specs.Sheet.{sheetIn, conjunctsIn}
 use Rattle.sheet.specs.declared.Checked.{Checked}
 use Rattle.sheet.specs.declared.Checked.the-variants.{Refused as SheetRefused, Accepted}
 use Rattle.sheet.proofs.AcceptedLaws.{accepted}
+use Rattle.join.specs.Join.{joinSelectivityFromConjuncts}
 use Rattle.answers.specs.Answers.{Result, refusal, bytes, answered, leaves, sheetResult}
-use Rattle.join_answer.specs.Join.{joinBytes, joinOf, joinResult}
+use Rattle.join_answer.specs.Join.{joinBytes, joinResult}
 use Rattle.answers.specs.declared.Answer.the-variants.{Refused, Written}
 use Rattle.demand.specs.Claim.{OneJoin}
-use Rattle.demand.specs.Demand.{AcceptedJoin, returned, Demand3}
+use Rattle.demand.specs.Demand.{AcceptedJoin, returned, joinIn, Demand3}
 use Rattle.demand.proofs.KeptLaws.{kept}
 use Rattle.demand.proofs.AnswerLaws.{one-join}
 use Rattle.demand.proofs.TwoJoinLaws.{two-joins}
@@ -39,24 +40,24 @@ written (bytes bs) out n e = (bs, refl, go (leb (length bs) (length out)) e)
     go false q = let z : _≡_ {A = ℕ} 0 1 = cc in absurd (no z)
 
 -- bytes come of an accepted sheet
-accepted-bytes : (s bs : List ℕ) → joinResult s ≡ bytes bs → (sheetRefusal s ≡ 0) × (joinBytes (joinOf (sheetIn s)) ≡ bs)
+accepted-bytes : (s bs : List ℕ) → joinResult s ≡ bytes bs → (sheetRefusal s ≡ 0) × (joinBytes (joinSelectivityFromConjuncts (sheetIn s) (conjunctsIn s)) ≡ bs)
 unfolding joinResult
 accepted-bytes s bs e = go (check s) refl e
   where
     no : _≡_ {A = ℕ} 0 1 → ⊥
     no z = omega arith
 
-    go : (checked : Checked) → check s ≡ checked → sheetResult checked (bytes (joinBytes (joinOf (sheetIn s)))) ≡ bytes bs → (sheetRefusal s ≡ 0) × (joinBytes (joinOf (sheetIn s)) ≡ bs)
+    go : (checked : Checked) → check s ≡ checked → sheetResult checked (bytes (joinBytes (joinSelectivityFromConjuncts (sheetIn s) (conjunctsIn s)))) ≡ bytes bs → (sheetRefusal s ≡ 0) × (joinBytes (joinSelectivityFromConjuncts (sheetIn s) (conjunctsIn s)) ≡ bs)
     go (SheetRefused n) p q = let z : _≡_ {A = ℕ} 0 1 = cc in absurd (no z)
-    go (Accepted x) p q = let f : joinBytes (joinOf (sheetIn s)) ≡ bs = cc in (accepted s x p .0, f)
+    go (Accepted x) p q = let f : joinBytes (joinSelectivityFromConjuncts (sheetIn s) (conjunctsIn s)) ≡ bs = cc in (accepted s x p .0, f)
 
-call-join : (call : AcceptedJoin) → OneJoin (sheetIn (call .sheet)) (returned call)
+call-join : (call : AcceptedJoin) → OneJoin (joinIn (call .sheet)) (returned call)
 call-join call =
     let s = call .sheet in
-    let w = written (joinResult s) (call .lent) (call .size) (sym (call .accepted) ∙ call .comes .0) in
+    let w = written (joinResult s) (call .lent) (call .size) (call .comes .0) in
     let b = accepted-bytes s (w .0) (w .1) in
-    let e : returned call ≡ joinBytes (joinOf (sheetIn s)) = ap (take (call .size)) (call .comes .1) ∙ w .2 ∙ sym (b .1) in
-    subst (OneJoin (sheetIn s)) (sym e) (one-join (sheetIn s) (kept s (b .0)))
+    let e : returned call ≡ joinBytes (joinSelectivityFromConjuncts (sheetIn s) (conjunctsIn s)) = ap (take (call .size)) (call .comes .1) ∙ w .2 ∙ sym (b .1) in
+    subst (OneJoin (joinIn s)) (sym e) (one-join (joinIn s) (kept s (b .0)))
 
 pub demand3 : Demand3
 demand3 X Y = two-joins (call-join X) (call-join Y)

@@ -1,11 +1,11 @@
 -- That the join's equality pairs are the equating conjuncts of the claim, and that every accepted sheet is `Kept`, whatever its numbers. Assumes nothing.
-use Prim.Native.Nat.{ℕ, zero, suc, _<_}
+use Prim.Native.Nat.{ℕ, zero, suc, _<_, _≤_}
 use mathlib.Core.Path.{_≡_, refl, sym, ap, subst}
 use mathlib.Core.Logic.{_↔_, ⊎-elim}
 use mathlib.Core.Bool.{Bool, true, false}
 use mathlib.Core.List.{List, [], _∷_, List·Memᴰ, List·Memᴰ·head, List·Memᴰ·tail, List·Memᴰ·cases-cons, List·Memᴰ·not-nil, List·Memᴰ·eq-of-singleton, List·Memᴰ·append-cases, Memᴰ·append-left, Memᴰ·append-right}
 use native.Mathlib.Omega.{arith}
-use lib.ListN.{getD}
+use lib.ListN.{length, getD}
 use Rattle.le.specs.Fields.{byteAt}
 use Rattle.records.specs.Expressions.{expressionAt}
 use Rattle.records.specs.declared.expressions.BinaryOp.{BinaryOp}
@@ -17,7 +17,7 @@ use Rattle.expression_rules.proofs.RoomLaws.{column-ref-below}
 use Rattle.sheet.specs.Order.{sectionAt}
 use Rattle.sheet.specs.Rules.{recordRefusal}
 use Rattle.sheet.specs.Check.{sheetRefusal}
-use Rattle.sheet.specs.Sheet.{Sheet, recordsIn, sheetIn}
+use Rattle.sheet.specs.Sheet.{Sheet, recordsIn, sheetIn, conjunctsIn}
 use Rattle.sheet.specs.declared.order.Kind.the-variants.{Expressions}
 use Rattle.sheet.proofs.AcceptedLaws.{accepted-record}
 use Rattle.lawful.specs.Lawful.{Each}
@@ -29,7 +29,8 @@ use Rattle.parts.specs.Parts.{columnRef, isNullSafe, bothColumns, columnEqualit
 use Rattle.parts.specs.declared.OptionColumn.{OptionColumn}
 use Rattle.parts.specs.declared.OptionColumn.the-variants.{Absent, Present}
 use Rattle.equality_pairs.specs.Pairs.{EqualityPair, nullSafeIn, pairOf, equalityPair, equalityPairs}
-use Rattle.demand.specs.Claim.{opOf, Equates}
+use Rattle.demand.specs.Claim.{opOf, Join, Equates}
+use Rattle.demand.specs.Demand.{joinIn}
 use Rattle.demand.proofs.Kept.{Kept}
 
 -- ---- the pairs are the equating conjuncts
@@ -117,10 +118,10 @@ pair-to sheet (d ∷ es) p e m h =
     (λ (k : List·Memᴰ e es). Memᴰ·append-right (equalityPair sheet d) (pair-to sheet es p e k h))
     (List·Memᴰ·cases-cons m)
 
-pub pairs-law : (sheet : Sheet) (p : EqualityPair) → List·Memᴰ p (equalityPairs sheet (sheet .conjuncts)) ↔ Equates sheet (p .left) (p .right) (p .nullSafe)
-pairs-law sheet p = (
-  λ m. let r = pair-from sheet (sheet .conjuncts) p m in record { conjunct = r .0; stands = r .1; left = r .2 .left; right = r .2 .right; binary = r .2 .binary; leftColumn = r .2 .leftColumn; rightColumn = r .2 .rightColumn },
-  λ h. pair-to sheet (sheet .conjuncts) p (h .conjunct) (h .stands) record { left = h .left; right = h .right; binary = h .binary; leftColumn = h .leftColumn; rightColumn = h .rightColumn },
+pub pairs-law : (join : Join) (p : EqualityPair) → List·Memᴰ p (equalityPairs (join .sheet) (join .conjuncts)) ↔ Equates join (p .left) (p .right) (p .nullSafe)
+pairs-law join p = (
+  λ m. let r = pair-from (join .sheet) (join .conjuncts) p m in record { conjunct = r .0; stands = r .1; left = r .2 .left; right = r .2 .right; binary = r .2 .binary; leftColumn = r .2 .leftColumn; rightColumn = r .2 .rightColumn },
+  λ h. pair-to (join .sheet) (join .conjuncts) p (h .conjunct) (h .stands) record { left = h .left; right = h .right; binary = h .binary; leftColumn = h .leftColumn; rightColumn = h .rightColumn },
 )
 
 -- ---- what acceptance gives
@@ -159,11 +160,16 @@ module _ (s : List ℕ) (accepted : sheetRefusal s ≡ 0) where
   unfolding sheetIn
   column-below e column q = subst ColumnBelow q (each-or ColumnBelow (recordsIn Expressions expressionAt s (sectionAt s 9)) Other expressions tt e)
 
-  pub kept : Kept (sheetIn s)
+  -- of any conjuncts, at most 64
+  pub kept-with : (conjuncts : List ℕ) → length conjuncts ≤ 64 → Kept (record { sheet = sheetIn s; conjuncts = conjuncts })
   unfolding sheetIn
-  kept = record {
+  kept-with conjuncts few = record {
     left = λ class c m h. left-classes s accepted class m .columns c h;
     right = λ class c m h. right-classes s accepted class m .columns c h;
     equated = λ first second nullSafe h. (column-below (h .left) first (h .leftColumn), column-below (h .right) second (h .rightColumn));
-    conjunctCount = conjunct-count s accepted;
+    conjunctCount = few;
   }
+
+  pub kept : Kept (joinIn s)
+  unfolding conjunctsIn
+  kept = kept-with (conjunctsIn s) (conjunct-count s accepted)

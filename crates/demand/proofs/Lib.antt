@@ -8,3 +8,4 @@ pub mod TwoJoinLaws
 pub mod ReadLaws
 pub mod AnswerLaws
 pub mod Demand3
+pub mod CallLaws

@@ -12,8 +12,9 @@ use borrow.Author.Tests.{eq-eqb, ne-eqb, eqb-true}
 use Rattle.estimate.specs.declared.Estimate.{Estimate}
 use Rattle.records.specs.Classes.{ColumnEquivalenceClass}
 use Rattle.sheet.specs.Sheet.{Sheet}
-use Rattle.class_state.specs.State.{ClassState, equivalent, moved, under, union, unionEach, overwritten, withColumns, withClasses}
-use Rattle.edge_fold.specs.Edges.{EqualityEdge}
+use Rattle.class_state.specs.State.{equivalent, moved, under, union, unionEach, overwritten, withColumns, withClasses}
+use Rattle.class_state.specs.declared.EquivalenceClassState.{EquivalenceClassState}
+use Rattle.edge.specs.declared.EqualityEdge.{EqualityEdge}
 use Rattle.edge_fold.specs.Fold.{Folded, withEdge, withEdges}
 use Rattle.demand.specs.Claim.{Columns, Linked, no-step, step}
 use Rattle.demand.proofs.ChainLaws.{trans, turned}
@@ -144,43 +145,43 @@ joined-same : (l : List ℕ) (a b : ℕ) → rootOf l a ≡ rootOf l b → l ≡
 unfolding joined
 joined-same l a b e = sym (map-same (moved (rootOf l b) (rootOf l a)) (λ x. ⊎-elim (λ w. w .1 ∙ e ∙ sym (w .0)) (λ w. w) (moved-cases (rootOf l b) (rootOf l a) x)) l)
 
-pub union-roots : (sheet : Sheet) (state : ClassState) (left right : ℕ) (distinct : Estimate) → union sheet state left right distinct .roots ≡ joined (state .roots) left right
+pub union-roots : (state : EquivalenceClassState) (left right : ℕ) (distinct : Estimate) → union state left right distinct .roots ≡ joined (state .roots) left right
 unfolding union under joined
-union-roots sheet state left right distinct = go (equivalent state left right) (eqb-true _ _)
+union-roots state left right distinct = go (equivalent state left right) (eqb-true _ _)
   where
     go : (t : Bool) → (t ≡ true → rootOf (state .roots) left ≡ rootOf (state .roots) right)
-        → cond t state (under sheet state (rootOf (state .roots) left) (rootOf (state .roots) right) distinct) .roots ≡ joined (state .roots) left right
+        → cond t state (under state (rootOf (state .roots) left) (rootOf (state .roots) right) distinct) .roots ≡ joined (state .roots) left right
     go true e = joined-same (state .roots) left right (e refl)
     go false e = refl
 
-each-roots : (sheet : Sheet) (state : ClassState) (first : ℕ) (columns : List ℕ) (distinct : Estimate) → unionEach sheet state first columns distinct .roots ≡ joinedAll (state .roots) (map (λ (c : ℕ). (first, c)) columns)
+each-roots : (state : EquivalenceClassState) (first : ℕ) (columns : List ℕ) (distinct : Estimate) → unionEach state first columns distinct .roots ≡ joinedAll (state .roots) (map (λ (c : ℕ). (first, c)) columns)
 unfolding unionEach joinedAll
-each-roots sheet state first [] distinct = refl
-each-roots sheet state first (column ∷ columns) distinct =
-    each-roots sheet (union sheet state first column distinct) first columns distinct
-    ∙ ap (λ (l : List ℕ). joinedAll l (map (λ (c : ℕ). (first, c)) columns)) (union-roots sheet state first column distinct)
+each-roots state first [] distinct = refl
+each-roots state first (column ∷ columns) distinct =
+    each-roots (union state first column distinct) first columns distinct
+    ∙ ap (λ (l : List ℕ). joinedAll l (map (λ (c : ℕ). (first, c)) columns)) (union-roots state first column distinct)
 
 -- a class joins its first column with each other one
 unfoldable pub classPairs : List ℕ → List Two
 classPairs [] = []
 classPairs (first ∷ columns) = map (λ (c : ℕ). (first, c)) columns
 
-columns-roots : (sheet : Sheet) (state : ClassState) (columns : List ℕ) (distinct : Estimate) → withColumns sheet state columns distinct .roots ≡ joinedAll (state .roots) (classPairs columns)
+columns-roots : (state : EquivalenceClassState) (columns : List ℕ) (distinct : Estimate) → withColumns state columns distinct .roots ≡ joinedAll (state .roots) (classPairs columns)
 unfolding withColumns classPairs joinedAll overwritten
-columns-roots sheet state [] distinct = refl
-columns-roots sheet state (first ∷ []) distinct = refl
-columns-roots sheet state (first ∷ second ∷ columns) distinct = each-roots sheet (overwritten state first distinct) first (second ∷ columns) distinct
+columns-roots state [] distinct = refl
+columns-roots state (first ∷ []) distinct = refl
+columns-roots state (first ∷ second ∷ columns) distinct = each-roots (overwritten state first distinct) first (second ∷ columns) distinct
 
 unfoldable pub allPairs : List ColumnEquivalenceClass → List Two
 allPairs [] = []
 allPairs (class ∷ classes) = classPairs (class .columns) ++ allPairs classes
 
-pub classes-roots : (sheet : Sheet) (state : ClassState) (classes : List ColumnEquivalenceClass) → withClasses sheet state classes .roots ≡ joinedAll (state .roots) (allPairs classes)
+pub classes-roots : (state : EquivalenceClassState) (classes : List ColumnEquivalenceClass) → withClasses state classes .roots ≡ joinedAll (state .roots) (allPairs classes)
 unfolding withClasses allPairs joinedAll
-classes-roots sheet state [] = refl
-classes-roots sheet state (class ∷ classes) =
-    classes-roots sheet (withColumns sheet state (class .columns) (class .distinct)) classes
-    ∙ ap (λ (l : List ℕ). joinedAll l (allPairs classes)) (columns-roots sheet state (class .columns) (class .distinct))
+classes-roots state [] = refl
+classes-roots state (class ∷ classes) =
+    classes-roots (withColumns state (class .columns) (class .distinct)) classes
+    ∙ ap (λ (l : List ℕ). joinedAll l (allPairs classes)) (columns-roots state (class .columns) (class .distinct))
     ∙ sym (joined-append (state .roots) (classPairs (class .columns)) (allPairs classes))
 
 abbrev pub ends : EqualityEdge → Two
@@ -191,7 +192,7 @@ unfolding withEdges withEdge joinedAll
 edges-roots sheet state [] = refl
 edges-roots sheet state (edge ∷ edges) =
     edges-roots sheet (withEdge sheet state edge) edges
-    ∙ ap (λ (l : List ℕ). joinedAll l (map ends edges)) (union-roots sheet (state .classes) (edge .left) (edge .right) (edge .chosenNdv))
+    ∙ ap (λ (l : List ℕ). joinedAll l (map ends edges)) (union-roots (state .classes) (edge .left) (edge .right) (edge .«chosen_ndv»))
 
 -- ---- what the unions of classes join
 

@@ -6,9 +6,8 @@ use mathlib.Core.Bool.{false}
 use mathlib.Core.List.{List, [], _∷_, List·Memᴰ, List·Memᴰ·head, List·Memᴰ·tail, Memᴰ·cast}
 use lib.ListN.{getD}
 use native.Mathlib.Decide.{ℕ-discrete}
-use Rattle.sheet.specs.Sheet.{Sheet}
 use Rattle.demand.specs.Reader.{blocks, nonNulls}
-use Rattle.demand.specs.Claim.{Columns, Within, SameSet, Equates, Fact, Equated, equated, Together, Linked, AllFollow, InOrdinary, LeadsToOrdinary, EquatedIn, Block, ShareBlock, OneJoin, TwoJoins}
+use Rattle.demand.specs.Claim.{Columns, Join, Within, SameSet, Equates, Fact, Equated, equated, Together, Linked, AllFollow, InOrdinary, LeadsToOrdinary, EquatedIn, Block, ShareBlock, OneJoin, TwoJoins}
 use Rattle.demand.proofs.ChainLaws.{one-step, carried, follow-linked, within-follow}
 
 -- ---- blocks
@@ -25,7 +24,7 @@ one-block K apart k g a mk mg ak ag =
     let e = apart (p .0) (q .0) a (subst (λ (l : Columns). List·Memᴰ a l) (sym (p .1)) ak) (subst (λ (l : Columns). List·Memᴰ a l) (sym (q .1)) ag) in
     sym (p .1) ∙ ap (λ (i : ℕ). getD K i []) e ∙ q .1
 
-module _ {s t : Sheet} {x y : List ℕ} (p : OneJoin s x) (q : OneJoin t y) (st : AllFollow (Fact t) (Fact s)) where
+module _ {s t : Join} {x y : List ℕ} (p : OneJoin s x) (q : OneJoin t y) (st : AllFollow (Fact t) (Fact s)) where
   share-over : (a b : ℕ) → a ≢ b → ShareBlock x a b → ShareBlock y a b
   share-over a b n h = q .share a b n .1 (follow-linked st (p .share a b n .0 h))
 
@@ -39,13 +38,13 @@ module _ {s t : Sheet} {x y : List ℕ} (p : OneJoin s x) (q : OneJoin t y) (st 
           let r = share-over a d n (k, mk, ak, h) in
           subst (λ (l : Columns). List·Memᴰ d l) (one-block (blocks y) (q .apart) (r .0) g a (r .1) mg (r .2) ag) (r .3)
 
-blocks-within : {s t : Sheet} {x y : List ℕ} → OneJoin s x → OneJoin t y → AllFollow (Fact t) (Fact s) → AllFollow (Fact s) (Fact t) → Within (Block x) (Block y)
+blocks-within : {s t : Join} {x y : List ℕ} → OneJoin s x → OneJoin t y → AllFollow (Fact t) (Fact s) → AllFollow (Fact s) (Fact t) → Within (Block x) (Block y)
 blocks-within p q st ts k mk =
     let w = p .two k mk in
     let r = share-over p q st (w .0) (w .1) (w .4) (k, mk, w .2, w .3) in
     (r .0, r .1, λ (d : ℕ). (block-over p q st k (r .0) (w .0) mk (r .1) (w .2) (r .2) d, block-over q p ts (r .0) k (w .0) (r .1) mk (r .2) (w .2) d))
 
-within-facts : {s t : Sheet} {x y : List ℕ} → OneJoin s x → OneJoin t y → Within (Block x) (Block y) → AllFollow (Fact t) (Fact s)
+within-facts : {s t : Join} {x y : List ℕ} → OneJoin s x → OneJoin t y → Within (Block x) (Block y) → AllFollow (Fact t) (Fact s)
 within-facts p q w f m a b ma mb n =
     let h = p .share a b n .1 (one-step (f, m, ma, mb)) in
     let r = w (h .0) (h .1) in
@@ -57,7 +56,7 @@ swapped : {first second c : ℕ} → List·Memᴰ c (first ∷ second ∷ []) �
 swapped (List·Memᴰ·head e) = List·Memᴰ·tail (List·Memᴰ·head e)
 swapped (List·Memᴰ·tail (List·Memᴰ·head e)) = List·Memᴰ·head e
 
-module _ {s t : Sheet} (w : EquatedIn s t) where
+module _ {s t : Join} (w : EquatedIn s t) where
   step-over : (a b : ℕ) → Together (Equated s) a b → Linked (Equated t) a b
   step-over a b (f, equated first second nullSafe e q, ma, mb) = either (w first second nullSafe e)
     where
@@ -78,12 +77,12 @@ module _ {s t : Sheet} (w : EquatedIn s t) where
   leads-over : (a : ℕ) → LeadsToOrdinary s a → LeadsToOrdinary t a
   leads-over a (c, l, o) = (c, carried step-over l, ordinary-over c o)
 
-non-nulls-over : {s t : Sheet} {x y : List ℕ} → OneJoin s x → OneJoin t y → EquatedIn s t → (a : ℕ) → List·Memᴰ a (nonNulls x) → List·Memᴰ a (nonNulls y)
+non-nulls-over : {s t : Join} {x y : List ℕ} → OneJoin s x → OneJoin t y → EquatedIn s t → (a : ℕ) → List·Memᴰ a (nonNulls x) → List·Memᴰ a (nonNulls y)
 non-nulls-over p q w a m = q .nonNull a .1 (leads-over w a (p .nonNull a .0 m))
 
 -- ---- the two joins
 
-pub two-joins : {s t : Sheet} {x y : List ℕ} → OneJoin s x → OneJoin t y → TwoJoins s t x y
+pub two-joins : {s t : Join} {x y : List ℕ} → OneJoin s x → OneJoin t y → TwoJoins s t x y
 two-joins {s} {t} {x} {y} p q = record {
   first = p;
   second = q;

@@ -13,10 +13,9 @@ use lib.Seq.{getD-set-same, getD-set-other}
 use borrow.Author.Tests.{eqb-true, eqb-false}
 use Rattle.float.specs.Integers.{bit}
 use Rattle.selection.proofs.SelectedLaws.{selected-in, in-selected}
-use Rattle.sheet.specs.Sheet.{Sheet}
 use Rattle.equality_pairs.specs.Pairs.{EqualityPair, equalityPairs}
 use Rattle.equality_pairs.specs.NonNull.{isMarked, withBoth, withOrdinary, extended, pass, count, passes, nonNullMarks, markedColumns}
-use Rattle.demand.specs.Claim.{Columns, Equates, Equated, equated, Linked, no-step, step, LeadsToOrdinary}
+use Rattle.demand.specs.Claim.{Columns, Join, Equates, Equated, equated, Linked, no-step, step, LeadsToOrdinary}
 use Rattle.demand.proofs.Kept.{Kept}
 use Rattle.demand.proofs.ChainLaws.{trans, one-step}
 use Rattle.demand.proofs.KeptLaws.{pairs-law}
@@ -224,24 +223,24 @@ ordinary-marked m (q ∷ ps) f p n o c x =
 
 -- ---- each mark is true
 
-module _ (sheet : Sheet) where
+module _ (join : Join) where
   abbrev AllEquate : List EqualityPair → Type 0
-  AllEquate ps = (p : EqualityPair) → List·Memᴰ p ps → Equates sheet (p .left) (p .right) (p .nullSafe)
+  AllEquate ps = (p : EqualityPair) → List·Memᴰ p ps → Equates join (p .left) (p .right) (p .nullSafe)
 
   abbrev AllTrue : List Bool → Type 0
-  AllTrue m = (c : ℕ) → isMarked m c ≡ true → LeadsToOrdinary sheet c
+  AllTrue m = (c : ℕ) → isMarked m c ≡ true → LeadsToOrdinary join c
 
   ordinary-true : (m : List Bool) (ps : List EqualityPair) → AllEquate ps → AllTrue m → AllTrue (withOrdinary m ps)
   unfolding withOrdinary
   ordinary-true m [] w h = h
   ordinary-true m (p ∷ ps) w h = ordinary-true (begun m p) ps (λ q n. w q (List·Memᴰ·tail n)) (go (p .nullSafe) (w p (List·Memᴰ·head refl)))
     where
-      go : (t : Bool) → Equates sheet (p .left) (p .right) t → AllTrue (cond t m (withBoth m p))
+      go : (t : Bool) → Equates join (p .left) (p .right) t → AllTrue (cond t m (withBoth m p))
       go true e c k = h c k
       go false e c k = ⊎-elim (λ (x : List·Memᴰ c (columnsOf p)). (c, no-step refl, record { first = p .left; second = p .right; equates = e; stands = x })) (λ (x : isMarked m c ≡ true). h c x) (both-only m p c k)
 
-  leads-over : (a b : ℕ) (nullSafe : Bool) → Equates sheet a b nullSafe → (c d : ℕ) → List·Memᴰ c (a ∷ b ∷ []) → List·Memᴰ d (a ∷ b ∷ []) → LeadsToOrdinary sheet c → LeadsToOrdinary sheet d
-  leads-over a b nullSafe e c d x y (o, l, w) = let k : Linked (Equated sheet) d c = one-step (a ∷ b ∷ [], equated a b nullSafe e refl, y, x) in (o, trans k l, w)
+  leads-over : (a b : ℕ) (nullSafe : Bool) → Equates join a b nullSafe → (c d : ℕ) → List·Memᴰ c (a ∷ b ∷ []) → List·Memᴰ d (a ∷ b ∷ []) → LeadsToOrdinary join c → LeadsToOrdinary join d
+  leads-over a b nullSafe e c d x y (o, l, w) = let k : Linked (Equated join) d c = one-step (a ∷ b ∷ [], equated a b nullSafe e refl, y, x) in (o, trans k l, w)
 
   some-mark : (m : List Bool) (p : EqualityPair) → touches m p ≡ true → (c : ℕ) × (List·Memᴰ c (columnsOf p)) × (isMarked m c ≡ true)
   some-mark m p h = go (isMarked m (p .left)) refl h
@@ -285,21 +284,21 @@ marked-below [] c h = absurd (false≢true h)
 marked-below (b ∷ m) zero h = zero-lt-suc (length m)
 marked-below (b ∷ m) (suc c) h = suc-le-suc-iff .1 (marked-below m c h)
 
-module _ (sheet : Sheet) (kept : Kept sheet) where
+module _ (join : Join) (kept : Kept join) where
   abbrev pairs : List EqualityPair
-  pairs = equalityPairs sheet (sheet .conjuncts)
+  pairs = equalityPairs (join .sheet) (join .conjuncts)
 
   fits : Fits 128 pairs
-  fits p n = kept .equated (p .left) (p .right) (p .nullSafe) (pairs-law sheet p .0 n)
+  fits p n = kept .equated (p .left) (p .right) (p .nullSafe) (pairs-law join p .0 n)
 
   -- marks to which a pass adds none are closed under chains
-  along : (r : List Bool) → Fits (length r) pairs → pass r pairs ≡ r → {a b : ℕ} → Linked (Equated sheet) a b → isMarked r b ≡ true → isMarked r a ≡ true
+  along : (r : List Bool) → Fits (length r) pairs → pass r pairs ≡ r → {a b : ℕ} → Linked (Equated join) a b → isMarked r b ≡ true → isMarked r a ≡ true
   along r f s (no-step e) h = ap (isMarked r) e ∙ h
   along r f s (step {a = a} {b = b} (g, equated first second nullSafe e q, x, y) l) h =
       let p : EqualityPair = record { left = first; right = second; nullSafe = nullSafe } in
       let ax : List·Memᴰ a (columnsOf p) = subst (λ (k : Columns). List·Memᴰ a k) (sym q) x in
       let by : List·Memᴰ b (columnsOf p) = subst (λ (k : Columns). List·Memᴰ b k) (sym q) y in
-      ap (λ (m : List Bool). isMarked m a) (sym s) ∙ pass-over r pairs f p (pairs-law sheet p .1 e) b a by ax (along r f s l h)
+      ap (λ (m : List Bool). isMarked m a) (sym s) ∙ pass-over r pairs f p (pairs-law join p .1 e) b a by ax (along r f s l h)
 
   abbrev start : List Bool
   start = withOrdinary (replicate 128 false) pairs
@@ -316,16 +315,16 @@ module _ (sheet : Sheet) (kept : Kept sheet) where
   marks-size : length marks ≡ 128
   marks-size = done .size ∙ start-size
 
-  marks-true : AllTrue sheet marks
-  marks-true = passes-true sheet 129 start pairs (λ p n. pairs-law sheet p .0 n) (ordinary-true sheet (replicate 128 false) pairs (λ p n. pairs-law sheet p .0 n) (λ c h. absurd (no-marks 128 c h)))
+  marks-true : AllTrue join marks
+  marks-true = passes-true join 129 start pairs (λ p n. pairs-law join p .0 n) (ordinary-true join (replicate 128 false) pairs (λ p n. pairs-law join p .0 n) (λ c h. absurd (no-marks 128 c h)))
 
-  true-marked : (a : ℕ) → LeadsToOrdinary sheet a → isMarked marks a ≡ true
+  true-marked : (a : ℕ) → LeadsToOrdinary join a → isMarked marks a ≡ true
   true-marked a (c, l, o) =
       let p : EqualityPair = record { left = o .first; right = o .second; nullSafe = false } in
-      let begins : isMarked start c ≡ true = ordinary-marked (replicate 128 false) pairs fits p (pairs-law sheet p .1 (o .equates)) refl c (o .stands) in
+      let begins : isMarked start c ≡ true = ordinary-marked (replicate 128 false) pairs fits p (pairs-law join p .1 (o .equates)) refl c (o .stands) in
       along marks (subst (λ (n : ℕ). Fits n pairs) (sym marks-size) fits) (done .still) l (done .adds c begins)
 
-  pub walk-law : (a : ℕ) → List·Memᴰ a (markedColumns (nonNullMarks (equalityPairs sheet (sheet .conjuncts)))) ↔ LeadsToOrdinary sheet a
+  pub walk-law : (a : ℕ) → List·Memᴰ a (markedColumns (nonNullMarks (equalityPairs (join .sheet) (join .conjuncts)))) ↔ LeadsToOrdinary join a
   unfolding markedColumns nonNullMarks
   walk-law a = (
     λ m. marks-true a (selected-in (isMarked marks) 0 128 a m .2),

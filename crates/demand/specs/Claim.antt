@@ -1,4 +1,4 @@
--- Demand 3: what a join returns as blocks and as non-null columns, in the words of document 01 ("The words of demand 3"), by the facts of its sheet alone. How a join is worked out has no part in it. "Exactly when" is ↔; what stands on its two sides is data, so each side is turned into the other, which is more than that both hold or neither. Definitions only.
+-- Demand 3: what a join returns as blocks and as non-null columns, in the words of document 01 ("The words of demand 3"), by its facts alone. How a join is worked out has no part in it. "Exactly when" is ↔; what stands on its two sides is data, so each side is turned into the other, which is more than that both hold or neither. Definitions only.
 use Prim.Native.Nat.{ℕ}
 use mathlib.Core.Path.{_≡_}
 use mathlib.Core.Logic.{_↔_, _≢_, _⊎_}
@@ -29,6 +29,13 @@ Within F G = (f : Columns) → F f → (g : Columns) × G g × Same f g
 abbrev pub SameSet : (Columns → Type 0) → (Columns → Type 0) → Type 0
 SameSet F G = Within F G × Within G F
 
+-- ---- a join
+
+-- a sheet, and the expressions that are the conjuncts, by number
+pub record Join : Type 0 where
+  pub sheet : Sheet
+  pub conjuncts : List ℕ
+
 -- ---- equating conjuncts
 
 -- ordinary: SQL's equality; null-safe: IS NOT DISTINCT FROM
@@ -37,26 +44,26 @@ opOf false = Eq
 opOf true = IsNotDistinctFrom
 
 -- a conjunct that names an expression which is itself binary (kind 3) with one of these operators, both its children being columns (kind 1), which may be the same
-pub record Equates (sheet : Sheet) (first second : ℕ) (nullSafe : Bool) : Type 0 where
+pub record Equates (join : Join) (first second : ℕ) (nullSafe : Bool) : Type 0 where
   pub conjunct : ℕ
-  pub stands : List·Memᴰ conjunct (sheet .conjuncts)
+  pub stands : List·Memᴰ conjunct (join .conjuncts)
   pub left : ℕ
   pub right : ℕ
-  pub binary : expressionOf sheet conjunct ≡ Binary (opOf nullSafe) left right
-  pub leftColumn : expressionOf sheet left ≡ ColumnRef first
-  pub rightColumn : expressionOf sheet right ≡ ColumnRef second
+  pub binary : expressionOf (join .sheet) conjunct ≡ Binary (opOf nullSafe) left right
+  pub leftColumn : expressionOf (join .sheet) left ≡ ColumnRef first
+  pub rightColumn : expressionOf (join .sheet) right ≡ ColumnRef second
 
 -- ---- facts
 
--- the columns of a profile class of either side, or the one or two of an equating conjunct; neither distinct nor operator
-pub data Fact (sheet : Sheet) (f : Columns) : Type 0 where
-  of-left : (class : ColumnEquivalenceClass) → List·Memᴰ class (sheet .leftClasses) → class .columns ≡ f → Fact sheet f
-  of-right : (class : ColumnEquivalenceClass) → List·Memᴰ class (sheet .rightClasses) → class .columns ≡ f → Fact sheet f
-  of-conjunct : (first second : ℕ) (nullSafe : Bool) → Equates sheet first second nullSafe → first ∷ second ∷ [] ≡ f → Fact sheet f
+-- the one or two columns of an equating conjunct; no operator
+pub data Equated (join : Join) (f : Columns) : Type 0 where
+  equated : (first second : ℕ) (nullSafe : Bool) → Equates join first second nullSafe → first ∷ second ∷ [] ≡ f → Equated join f
 
--- the facts of equating conjuncts alone
-pub data Equated (sheet : Sheet) (f : Columns) : Type 0 where
-  equated : (first second : ℕ) (nullSafe : Bool) → Equates sheet first second nullSafe → first ∷ second ∷ [] ≡ f → Equated sheet f
+-- these, or the columns of a profile class of either side; no distinct
+pub data Fact (join : Join) (f : Columns) : Type 0 where
+  of-left : (class : ColumnEquivalenceClass) → List·Memᴰ class (join .sheet .leftClasses) → class .columns ≡ f → Fact join f
+  of-right : (class : ColumnEquivalenceClass) → List·Memᴰ class (join .sheet .rightClasses) → class .columns ≡ f → Fact join f
+  of-conjunct : Equated join f → Fact join f
 
 -- ---- chains
 
@@ -77,27 +84,27 @@ abbrev pub AllFollow : (Columns → Type 0) → (Columns → Type 0) → Type 0
 AllFollow G F = (f : Columns) → F f → Follows G f
 
 -- a column of an ordinary equating conjunct
-pub record InOrdinary (sheet : Sheet) (column : ℕ) : Type 0 where
+pub record InOrdinary (join : Join) (column : ℕ) : Type 0 where
   pub first : ℕ
   pub second : ℕ
-  pub equates : Equates sheet first second false
+  pub equates : Equates join first second false
   pub stands : List·Memᴰ column (first ∷ second ∷ [])
 
 -- equating conjuncts lead from a column, in any number or none, to a column of an ordinary one
-abbrev pub LeadsToOrdinary : Sheet → ℕ → Type 0
-LeadsToOrdinary sheet a = (c : ℕ) × Linked (Equated sheet) a c × InOrdinary sheet c
+abbrev pub LeadsToOrdinary : Join → ℕ → Type 0
+LeadsToOrdinary join a = (c : ℕ) × Linked (Equated join) a c × InOrdinary join c
 
 -- ---- likeness
 
 -- the same set of facts
-abbrev pub AlikeInFacts : Sheet → Sheet → Type 0
+abbrev pub AlikeInFacts : Join → Join → Type 0
 AlikeInFacts s t = SameSet (Fact s) (Fact t)
 
 -- the same columns, either way round, under the same operator; order and repeats don't count
-abbrev pub EquatedIn : Sheet → Sheet → Type 0
+abbrev pub EquatedIn : Join → Join → Type 0
 EquatedIn s t = (first second : ℕ) (nullSafe : Bool) → Equates s first second nullSafe → Equates t first second nullSafe ⊎ Equates t second first nullSafe
 
-abbrev pub AlikeInEquating : Sheet → Sheet → Type 0
+abbrev pub AlikeInEquating : Join → Join → Type 0
 AlikeInEquating s t = EquatedIn s t × EquatedIn t s
 
 -- ---- what an answer says
@@ -110,19 +117,19 @@ ShareBlock answer a b = (k : Columns) × Block answer k × List·Memᴰ a k × L
 
 -- ---- the claim
 
--- of one join: a sheet, and the bytes of its answer
-pub record OneJoin (sheet : Sheet) (answer : List ℕ) : Type 0 where
+-- of one join, and the bytes of its answer
+pub record OneJoin (join : Join) (answer : List ℕ) : Type 0 where
   -- a returned block has two columns or more
   pub two : (k : Columns) → Block answer k → (a : ℕ) × (b : ℕ) × List·Memᴰ a k × List·Memᴰ b k × (a ≢ b)
   -- no two blocks share a column: blocks with a common column stand at one place
   pub apart : (i j a : ℕ) → List·Memᴰ a (getD (blocks answer) i []) → List·Memᴰ a (getD (blocks answer) j []) → i ≡ j
   -- two different columns share a block exactly when a chain of facts links them
-  pub share : (a b : ℕ) → a ≢ b → ShareBlock answer a b ↔ Linked (Fact sheet) a b
+  pub share : (a b : ℕ) → a ≢ b → ShareBlock answer a b ↔ Linked (Fact join) a b
   -- a column is non-null exactly when equating conjuncts lead from it to a column of an ordinary one
-  pub nonNull : (a : ℕ) → List·Memᴰ a (nonNulls answer) ↔ LeadsToOrdinary sheet a
+  pub nonNull : (a : ℕ) → List·Memᴰ a (nonNulls answer) ↔ LeadsToOrdinary join a
 
 -- of any two joins
-pub record TwoJoins (s t : Sheet) (x y : List ℕ) : Type 0 where
+pub record TwoJoins (s t : Join) (x y : List ℕ) : Type 0 where
   pub first : OneJoin s x
   pub second : OneJoin t y
   -- the same set of blocks exactly when each one's facts follow from the other's

@@ -1,7 +1,7 @@
 -- Worked equalities: those that document 01 marks, at one edge, and a foreign key. Assumes nothing.
 use Prim.Native.Nat.{ℕ}
 use mathlib.Core.Path.{_≡_, refl}
-use mathlib.Core.Bool.{true, false}
+use mathlib.Core.Bool.{Bool, true, false}
 use mathlib.Core.List.{List, [], _∷_}
 use lib.IntN.{pos, negsuc}
 use lib.Ieee.{Float, binary64, fin, round, ofInt, add, sub, mul, div, lt, le, eq}
@@ -10,6 +10,7 @@ use Rattle.float.specs.Option.{none}
 use Rattle.scalar.specs.Order.{scalarOrder}
 use Rattle.scalar.specs.declared.Scalar.the-variants.{Int32}
 use Rattle.scalar.specs.declared.Bound.the-variants.{Absent, Present}
+use Rattle.estimate.specs.Estimates.{estimateOf, maxByValue}
 use Rattle.estimate.specs.declared.Estimate.{Estimate}
 use Rattle.estimate.specs.declared.EstimateSource.the-variants.{Catalog}
 use Rattle.records.specs.declared.catalog.Key.{Key}
@@ -20,6 +21,7 @@ use Rattle.records.specs.declared.columns.SketchNumber.the-variants.{Absent as 
 use Rattle.records.specs.declared.columns.ColumnProfile.{ColumnProfile}
 use Rattle.sheet.specs.Sheet.{Sheet}
 use Rattle.edge.specs.Edge.{equalityEdgeEstimate}
+use Rattle.edge.specs.declared.EqualityEdge.{EqualityEdge}
 use Rattle.edge.specs.declared.EqualityEdgeEstimate.{EqualityEdgeEstimate}
 use Rattle.edge.specs.declared.LeftCoverage.the-variants.{Absent as NoCoverage, Present as Coverage}
 
@@ -31,7 +33,7 @@ abbrev hundredths : ℕ → Float
 hundredths n = round binary64 false n 100
 
 abbrev figure : ℕ → Estimate
-figure n = record { value = number n; lower = none; upper = none; source = Catalog }
+figure n = estimateOf (number n) none none Catalog
 
 -- how often a column is not null, and its distinct values
 abbrev profileOf : ℕ → ℕ → ℕ → ColumnProfile
@@ -66,13 +68,23 @@ sheetWith left right keys = record {
   rightClasses = [];
   expressions = [];
   operands = [];
-  conjuncts = [];
+}
+
+-- between columns whose classes have so many distinct values
+abbrev edge : ℕ → ℕ → Bool → ℕ → ℕ → EqualityEdge
+edge left right nullSafe leftNdv rightNdv = record {
+  left = left;
+  right = right;
+  «null_safe» = nullSafe;
+  «chosen_ndv» = maxByValue (figure leftNdv) (figure rightNdv);
+  «left_ndv» = figure leftNdv;
+  «right_ndv» = figure rightNdv;
 }
 
 abbrev plain : Sheet
 plain = sheetWith (profileOf 1 100 10) (profileOf 2 50 25) []
 
-ordinary : equalityEdgeEstimate plain 1 2 false (number 10) (number 25) ≡ record {
+ordinary : equalityEdgeEstimate plain (edge 1 2 false 10 25) ≡ record {
   «pair_selectivity» = hundredths 4;
   «left_match_probability» = f64One;
   «left_coverage» = Coverage (record {
@@ -90,7 +102,7 @@ unfolding equalityEdgeEstimate ofInt round add sub mul div lt le eq
 ordinary = refl
 
 -- the right column first: classes with 40 and 16 distinct values give 16 / (16 * 40)
-exchanged : equalityEdgeEstimate plain 2 1 false (number 40) (number 16) ≡ record {
+exchanged : equalityEdgeEstimate plain (edge 2 1 false 40 16) ≡ record {
   «pair_selectivity» = round binary64 false 25 1000;
   «left_match_probability» = f64One;
   «left_coverage» = Coverage (record {
@@ -108,7 +120,7 @@ unfolding equalityEdgeEstimate ofInt round add sub mul div lt le eq
 exchanged = refl
 
 -- no input has column 3
-not-found : equalityEdgeEstimate plain 1 3 false (number 10) (number 100) ≡ record {
+not-found : equalityEdgeEstimate plain (edge 1 3 false 10 100) ≡ record {
   «pair_selectivity» = hundredths 10;
   «left_match_probability» = f64One;
   «left_coverage» = NoCoverage;
@@ -118,7 +130,7 @@ unfolding equalityEdgeEstimate ofInt round add sub mul div lt le eq
 not-found = refl
 
 -- 0.171875 and 0.625
-null-safe : equalityEdgeEstimate (sheetWith (profileOf 1 75 8) (profileOf 2 25 4) []) 1 2 true (number 8) (number 4) ≡ record {
+null-safe : equalityEdgeEstimate (sheetWith (profileOf 1 75 8) (profileOf 2 25 4) []) (edge 1 2 true 8 4) ≡ record {
   «pair_selectivity» = fin false 11 (negsuc 5);
   «left_match_probability» = fin false 5 (negsuc 2);
   «left_coverage» = Coverage (record {
@@ -153,7 +165,7 @@ abbrev referring : ℕ → ℕ → ℕ → ℕ → EqualityEdgeEstimate
 referring low high otherLow otherHigh =
     equalityEdgeEstimate
     (sheetWith (based (profileOf 1 75 10) 7 low high) (based (profileOf 2 50 25) 8 otherLow otherHigh) (Foreign 7 0 8 0 ∷ []))
-    1 2 false (number 10) (number 25)
+    (edge 1 2 false 10 25)
 
 disjoint : referring 0 9 10 19 ≡ record {
   «pair_selectivity» = f64Zero;

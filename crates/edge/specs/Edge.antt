@@ -6,7 +6,6 @@ use lib.Ieee.{Float, binary64, mul, div, lt}
 use Rattle.float.specs.Order.{f64Zero, f64One, f64Max, clampUnit}
 use Rattle.float.specs.Option.{none}
 use Rattle.float.specs.declared.option.OptionF64.{OptionF64}
-use Rattle.estimate.specs.declared.Estimate.{Estimate}
 use Rattle.records.specs.declared.columns.BaseColumn.{BaseColumn}
 use Rattle.records.specs.declared.columns.BaseColumn.the-variants.{Absent as NoBase, Present as Base}
 use Rattle.records.specs.declared.columns.ColumnProfile.{ColumnProfile}
@@ -18,6 +17,7 @@ use Rattle.keys.specs.Keys.{singleColumnForeignKey, profileHasCompleteBasePopul
 use Rattle.edge.specs.Oriented.{joinColumnDistinct, orientedJoinColumns}
 use Rattle.edge.specs.Inputs.{edgeInputs}
 use Rattle.edge.specs.Figures.{disjointEstimate, foreignKeyEstimate, overlapEstimate}
+use Rattle.edge.specs.declared.EqualityEdge.{EqualityEdge}
 use Rattle.edge.specs.declared.OrientedColumns.{OrientedColumns}
 use Rattle.edge.specs.declared.OrientedColumns.the-variants.{Absent as NotOriented, Present as Oriented}
 use Rattle.edge.specs.declared.EdgeInputs.{EdgeInputs}
@@ -75,12 +75,14 @@ orientedEstimate sheet leftColumn rightColumn left right nullSafe leftHint right
     estimateByInputs sheet x left right (estimatedDistinctIntersection left right (x .«left_distinct») (x .«right_distinct»))
 
 -- the hints change places with the columns
-abbrev pub estimateAs : Sheet → ℕ → ℕ → Bool → Float → Float → OrientedColumns → EqualityEdgeEstimate
-estimateAs sheet first second nullSafe firstNdv secondNdv NotOriented = unorientedEstimate sheet first second
-estimateAs sheet first second nullSafe firstNdv secondNdv (Oriented leftColumn rightColumn left right) =
-    orientedEstimate sheet leftColumn rightColumn left right nullSafe (cond (eqb leftColumn first) firstNdv secondNdv) (cond (eqb leftColumn first) secondNdv firstNdv)
+abbrev pub estimateAs : Sheet → EqualityEdge → OrientedColumns → EqualityEdgeEstimate
+estimateAs sheet edge NotOriented = unorientedEstimate sheet (edge .left) (edge .right)
+estimateAs sheet edge (Oriented leftColumn rightColumn left right) =
+    let same = eqb leftColumn (edge .left) in
+    orientedEstimate sheet leftColumn rightColumn left right (edge .«null_safe»)
+    (cond same (edge .«left_ndv» .value) (edge .«right_ndv» .value))
+    (cond same (edge .«right_ndv» .value) (edge .«left_ndv» .value))
 
--- of the equality first = second, whose columns' classes have these distincts
-unfoldable pub equalityEdgeEstimate : Sheet → ℕ → ℕ → Bool → Float → Float → EqualityEdgeEstimate
+unfoldable pub equalityEdgeEstimate : Sheet → EqualityEdge → EqualityEdgeEstimate
 unfolding orientedJoinColumns unorientedEstimate orientedEstimate
-equalityEdgeEstimate sheet first second nullSafe firstNdv secondNdv = estimateAs sheet first second nullSafe firstNdv secondNdv (orientedJoinColumns sheet first second)
+equalityEdgeEstimate sheet edge = estimateAs sheet edge (orientedJoinColumns sheet (edge .left) (edge .right))

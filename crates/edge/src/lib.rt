@@ -8,6 +8,7 @@ ghost use Rattle.lookup.specs.declared.profiles.ProfileAndRows.the-variants.{Pr
 ghost use Rattle.sketch_join.specs.SketchJoin.{sketchJoinEstimate, sketchLeftMatchProbability};
 ghost use Rattle.keys.specs.Keys.{singleColumnForeignKey, profileHasCompleteBasePopulation};
 ghost use Rattle.edge.specs.Edge.{unorientedEstimate, basesReferenced, isReference, unlessNullSafe, estimateBySketches, estimateByInputs, orientedEstimate, equalityEdgeEstimate};
+use estimate::Estimate;
 use figures::disjoint_estimate;
 use figures::foreign_key_estimate;
 use figures::overlap_estimate;
@@ -34,6 +35,16 @@ use sketch_join::sketch_left_match_probability;
 mod figures;
 mod inputs;
 mod oriented;
+
+// The source's EqualityEdge.
+pub struct EqualityEdge {
+    pub left: u16,
+    pub right: u16,
+    pub null_safe: bool,
+    pub chosen_ndv: Estimate,
+    pub left_ndv: Estimate,
+    pub right_ndv: Estimate,
+}
 
 // The columns of an equality, the left input's first, with their profiles there.
 pub enum OrientedColumns {
@@ -278,29 +289,21 @@ fn hint(own: bool, ndv: f64, other: f64) -> f64
     other
 }
 
-// Of the equality first = second, whose columns' classes have these distincts.
-pub fn equality_edge_estimate(
-    s: &[u8],
-    q: Sections,
-    first: u16,
-    second: u16,
-    null_safe: bool,
-    first_ndv: f64,
-    second_ndv: f64,
-) -> EqualityEdgeEstimate
-    ensures { λ r. ⌜ r ≡ equalityEdgeEstimate (sheetOf (now (s .entry)) q) first second «null_safe» «first_ndv» «second_ndv» ⌝ }
+pub fn equality_edge_estimate(s: &[u8], q: Sections, edge: EqualityEdge) -> EqualityEdgeEstimate
+    ensures { λ r. ⌜ r ≡ equalityEdgeEstimate (sheetOf (now (s .entry)) q) edge ⌝ }
 {
-    let oriented = oriented_join_columns(s, q, first, second);
+    let oriented = oriented_join_columns(s, q, edge.left, edge.right);
     match oriented {
-        OrientedColumns::Absent => unoriented_estimate(s, q, first, second),
+        OrientedColumns::Absent => unoriented_estimate(s, q, edge.left, edge.right),
         OrientedColumns::Present {
             left_column,
             right_column,
             left,
             right,
         } => {
-            let left_hint = hint(left_column == first, first_ndv, second_ndv);
-            let right_hint = hint(left_column == first, second_ndv, first_ndv);
+            let same = left_column == edge.left;
+            let left_hint = hint(same, edge.left_ndv.value, edge.right_ndv.value);
+            let right_hint = hint(same, edge.right_ndv.value, edge.left_ndv.value);
             oriented_estimate(
                 s,
                 q,
@@ -308,7 +311,7 @@ pub fn equality_edge_estimate(
                 right_column,
                 left,
                 right,
-                null_safe,
+                edge.null_safe,
                 left_hint,
                 right_hint,
             )

@@ -9,11 +9,13 @@ use Rattle.class_state.specs.State.{equivalent, fromProfiles}
 use Rattle.equality_pairs.specs.Pairs.{EqualityPair}
 use Rattle.equality_pairs.specs.NonNull.{nonNullMarks}
 use Rattle.edge_order.proofs.SortLaws.{sort-length}
+use Rattle.edge.specs.Edge.{equalityEdgeEstimate}
+use Rattle.edge.specs.declared.EqualityEdge.{EqualityEdge}
 use Rattle.edge.specs.declared.LeftCoverage.{LeftCoverage}
 use Rattle.edge.specs.declared.LeftCoverage.the-variants.{Absent, Present}
 use Rattle.edge_fold.specs.Sides.{connectsInputs}
-use Rattle.edge_fold.specs.Edges.{EqualityEdge, edgeOf, edgeBefore, equalityEdges}
-use Rattle.edge_fold.specs.Fold.{Folded, noEquality, coverageOf, coverageUnless, edgeEstimate, edgeCoverages, withEdge, withEdges, foldedPairs}
+use Rattle.edge_fold.specs.Edges.{edgeOf, edgeBefore, equalityEdges}
+use Rattle.edge_fold.specs.Fold.{Folded, noEquality, coverageOf, coverageUnless, edgeCoverages, withEdge, withEdges, foldedPairs}
 
 one-coverage : (coverage : LeftCoverage) → length (coverageOf coverage) ≤ 1
 one-coverage Absent = omega arith
@@ -23,10 +25,10 @@ edge-coverage : (sheet : Sheet) (edge : EqualityEdge) (same : Bool) → length (
 unfolding edgeCoverages
 edge-coverage sheet edge same = go (connectsInputs sheet (edge .left) (edge .right)) same
   where
-    go : (connects inside : Bool) → length (cond connects (coverageUnless inside (edgeEstimate sheet edge)) []) ≤ 1
+    go : (connects inside : Bool) → length (cond connects (coverageUnless inside (equalityEdgeEstimate sheet edge)) []) ≤ 1
     go false inside = omega arith
     go true true = omega arith
-    go true false = one-coverage (edgeEstimate sheet edge .«left_coverage»)
+    go true false = one-coverage (equalityEdgeEstimate sheet edge .«left_coverage»)
 
 edges-coverages : (sheet : Sheet) (state : Folded) (edges : List EqualityEdge) → length (withEdges sheet state edges .coverages) ≤ length (state .coverages) + length edges
 unfolding withEdges withEdge
@@ -43,7 +45,7 @@ unfolding foldedPairs equalityEdges
 coverage-count sheet pairs =
     let classes = fromProfiles sheet in
     let marks = nonNullMarks pairs in
-    let h = edges-coverages sheet (record { classes = classes; figures = noEquality; coverages = [] }) (equalityEdges sheet classes marks pairs) in
-    let s = sort-length edgeBefore (map (edgeOf sheet classes marks) pairs) in
-    let m = length-map pairs (edgeOf sheet classes marks) in
+    let h = edges-coverages sheet (record { classes = classes; figures = noEquality; coverages = [] }) (equalityEdges classes marks pairs) in
+    let s = sort-length edgeBefore (map (edgeOf classes marks) pairs) in
+    let m = length-map pairs (edgeOf classes marks) in
     omega arith

@@ -1,5 +1,5 @@
--- Edges by their places and by their numbers. Assumes nothing.
-use Prim.Native.Nat.{ℕ, _+_, _<_}
+-- Edges by their numbers. Assumes nothing.
+use Prim.Native.Nat.{ℕ, _+_, _≤_, _<_}
 use mathlib.Core.Path.{_≡_, refl, sym, ap, _∙_}
 use mathlib.Core.Bool.{Bool, true, false}
 use mathlib.Core.List.{List, map, map-map}
@@ -9,45 +9,42 @@ use lib.Dec.{eqb}
 use lib.Ieee.{Float}
 use lib.ListN.{length, getD, set}
 use lib.Seq.{getD-set-same, getD-set-other}
-use Rattle.estimate.specs.Estimates.{maxByValue}
+use Rattle.float.specs.Order.{f64Zero}
+use Rattle.estimate.specs.declared.Estimate.{Estimate}
 use Rattle.records.specs.Lists.{tabulate, itself}
-use Rattle.sheet.specs.Sheet.{Sheet, sheetOf}
-use Rattle.sheet.specs.declared.Sections.{Sections}
-use Rattle.class_state.specs.State.{ClassState}
-use Rattle.class_state.specs.Places.{distinctAt, stateOf}
-use Rattle.class_state.specs.Chosen.{greaterPlace}
-use Rattle.class_state.proofs.DistinctLaws.{greater-is}
-use Rattle.class_state.proofs.UnionLaws.{root-distinct}
+use Rattle.class_state.specs.State.{noDistinct}
+use Rattle.class_state.specs.declared.EquivalenceClassState.{EquivalenceClassState}
 use Rattle.equality_pairs.specs.Pairs.{pairAt, pairsIn}
 use Rattle.edge_order.specs.Sort.{sort}
 use Rattle.edge_order.specs.Order.{standsBefore, numberBefore, edgeOrder}
+use Rattle.edge_order.proofs.PlaceLaws.{getD-within}
 use Rattle.edge_order.proofs.OrderLaws.{edge-order-map, map-itself}
-use Rattle.edge_fold.specs.Edges.{EqualityEdge, edgeBetween, edgeNullSafe, edgeOf, edgeBefore, equalityEdges}
-use Rattle.edge_fold.specs.Held.{edgeAt, placedEdge, heldEdge, KeysHeld}
-use Rattle.edge_fold.specs.declared.edges.PlacedEdge.{PlacedEdge}
+use Rattle.edge.specs.declared.EqualityEdge.{EqualityEdge}
+use Rattle.edge_fold.specs.Edges.{equalityEdge, edgeNullSafe, edgeBetween, edgeOf, edgeBefore, equalityEdges}
 
-module _ (s : List ℕ) (q : Sections) (edge : PlacedEdge) where
-  -- the place of the greater distinct stands for it
-  pub chosen-is : (place : ℕ) → place ≡ greaterPlace s q (edge .«left_place») (edge .«right_place») → distinctAt s q place ≡ heldEdge s q edge .chosenNdv
-  unfolding heldEdge
-  chosen-is place e = ap (distinctAt s q) e ∙ greater-is s q (edge .«left_place») (edge .«right_place»)
+-- the edge of the i-th of the pairs in three lists
+unfoldable pub edgeAt : EquivalenceClassState → List Bool → List ℕ → List ℕ → List Bool → ℕ → EqualityEdge
+unfolding edgeOf
+edgeAt classes marks lefts rights nullSafes i = edgeOf classes marks (pairAt lefts rights nullSafes i)
 
-  -- and the places of the classes' distincts for these
-  pub held-edge : (roots places : List ℕ) (marks : List Bool) (lefts rights : List ℕ) (nullSafes : List Bool) (i : ℕ) → edge ≡ placedEdge roots places marks lefts rights nullSafes i
-      → heldEdge s q edge ≡ edgeAt (sheetOf s q) (stateOf s q roots places) marks lefts rights nullSafes i
-  unfolding heldEdge placedEdge edgeOf edgeBetween stateOf
-  held-edge roots places marks lefts rights nullSafes i e =
-      let left = root-distinct s q roots places (getD roots (getD lefts i 0) 0) in
-      let right = root-distinct s q roots places (getD roots (getD rights i 0) 0) in
-      ap (heldEdge s q) e
-      ∙ λ k. record {
-        left = getD lefts i 0;
-        right = getD rights i 0;
-        nullSafe = edgeNullSafe marks (pairAt lefts rights nullSafes i);
-        chosenNdv = maxByValue (left k) (right k);
-        leftNdv = left k;
-        rightNdv = right k;
-      }
+-- made from the distincts that stand at the columns' roots
+module _ (classes : EquivalenceClassState) (marks : List Bool) (lefts rights : List ℕ) (nullSafes : List Bool) (i : ℕ) where
+  pub edge-made : (edge : EqualityEdge) (d e : Estimate) (left right a b : ℕ) (nullSafe : Bool)
+      → left ≡ getD lefts i 0 → right ≡ getD rights i 0 → nullSafe ≡ getD nullSafes i false
+      → a ≡ getD (classes .roots) left 0 → b ≡ getD (classes .roots) right 0
+      → a < length (classes .distincts) → b < length (classes .distincts)
+      → edge ≡ equalityEdge left right (edgeNullSafe marks left nullSafe) (getD (classes .distincts) a d) (getD (classes .distincts) b e)
+      → edge ≡ edgeAt classes marks lefts rights nullSafes i
+  unfolding edgeAt edgeOf edgeBetween
+  edge-made edge d e left right a b nullSafe l r n at bt ah bh is =
+      is
+      ∙ (λ k. equalityEdge left right (edgeNullSafe marks left nullSafe) (getD-within (classes .distincts) a d noDistinct ah k) (getD-within (classes .distincts) b e noDistinct bh k))
+      ∙ (λ k. equalityEdge left right (edgeNullSafe marks left nullSafe) (getD (classes .distincts) (at k) noDistinct) (getD (classes .distincts) (bt k) noDistinct))
+      ∙ λ k. equalityEdge (l k) (r k) (edgeNullSafe marks (l k) (n k)) (getD (classes .distincts) (getD (classes .roots) (l k) 0) noDistinct) (getD (classes .distincts) (getD (classes .roots) (r k) 0) noDistinct)
+
+-- what the first n edges are ordered by
+pub record KeysHeld (edge : ℕ → EqualityEdge) (distincts : List Float) (kinds : List Bool) (n : ℕ) : Type 0 where
+  pub at : (i : ℕ) → i < n → (getD distincts i f64Zero ≡ edge i .«chosen_ndv» .value) × (getD kinds i false ≡ edge i .«null_safe»)
 
 -- ---- keys, where a loop has stored those of the first i edges
 
@@ -66,25 +63,30 @@ stored l z f i v h e k below old = go (eqb k i) (eqb-true k i) (eqb-false k i)
 
 module _ (edge : ℕ → EqualityEdge) where
   pub keys-first : (distincts : List Float) (kinds : List Bool) → KeysHeld edge distincts kinds 0
-  keys-first distincts kinds k h = absurd (none k h)
+  keys-first distincts kinds = record { at = λ (k : ℕ) (h : k < 0). absurd (none k h) }
 
-  pub keys-next : (distincts : List Float) (kinds : List Bool) (i : ℕ) (distinct : Float) (kind : Bool) → i < length distincts → i < length kinds → distinct ≡ edge i .chosenNdv .value → kind ≡ edge i .nullSafe
+  pub keys-next : (distincts : List Float) (kinds : List Bool) (i : ℕ) (distinct : Float) (kind : Bool) → i < length distincts → i < length kinds → distinct ≡ edge i .«chosen_ndv» .value → kind ≡ edge i .«null_safe»
       → KeysHeld edge distincts kinds i → KeysHeld edge (set distincts i distinct) (set kinds i kind) (i + 1)
-  keys-next distincts kinds i distinct kind h g e f held k below = (
-    stored distincts _ (λ (j : ℕ). edge j .chosenNdv .value) i distinct h e k below (λ (l : k < i). held k l .0),
-    stored kinds _ (λ (j : ℕ). edge j .nullSafe) i kind g f k below (λ (l : k < i). held k l .1),
-  )
+  keys-next distincts kinds i distinct kind h g e f held = record {
+    at = λ (k : ℕ) (below : k < i + 1). (
+      stored distincts _ (λ (j : ℕ). edge j .«chosen_ndv» .value) i distinct h e k below (λ (l : k < i). held .at k l .0),
+      stored kinds _ (λ (j : ℕ). edge j .«null_safe») i kind g f k below (λ (l : k < i). held .at k l .1),
+    );
+  }
+
+  pub keys-all : (distincts : List Float) (kinds : List Bool) (n i : ℕ) → n ≤ i → KeysHeld edge distincts kinds i → KeysHeld edge distincts kinds n
+  keys-all distincts kinds n i h held = record { at = λ (k : ℕ) (l : k < n). held .at k (omega arith) }
 
 -- ---- sorted numbers are the numbers of the sorted edges
 
-pub edges-in-order : (sheet : Sheet) (classes : ClassState) (marks : List Bool) (lefts rights : List ℕ) (nullSafes : List Bool) (distincts : List Float) (kinds : List Bool) (n : ℕ) (order : List ℕ)
-    → order ≡ edgeOrder distincts kinds n → KeysHeld (edgeAt sheet classes marks lefts rights nullSafes) distincts kinds n
-    → map (edgeAt sheet classes marks lefts rights nullSafes) order ≡ equalityEdges sheet classes marks (pairsIn lefts rights nullSafes n)
-unfolding numberBefore equalityEdges
-edges-in-order sheet classes marks lefts rights nullSafes distincts kinds n order e held =
+pub edges-in-order : (classes : EquivalenceClassState) (marks : List Bool) (lefts rights : List ℕ) (nullSafes : List Bool) (distincts : List Float) (kinds : List Bool) (n : ℕ) (order : List ℕ)
+    → order ≡ edgeOrder distincts kinds n → KeysHeld (edgeAt classes marks lefts rights nullSafes) distincts kinds n
+    → map (edgeAt classes marks lefts rights nullSafes) order ≡ equalityEdges classes marks (pairsIn lefts rights nullSafes n)
+unfolding edgeAt numberBefore equalityEdges
+edges-in-order classes marks lefts rights nullSafes distincts kinds n order e held =
     ap (map edge) e
-    ∙ edge-order-map distincts kinds n edge edgeBefore (λ (i j : ℕ) (h : i < n) (g : j < n). λ k. standsBefore (held i h .0 k) (held i h .1 k) (held j g .0 k) (held j g .1 k))
-    ∙ ap (sort edgeBefore) (sym (map-map (edgeOf sheet classes marks) (pairAt lefts rights nullSafes) (tabulate itself n)) ∙ ap (map (edgeOf sheet classes marks)) (map-itself (pairAt lefts rights nullSafes) n))
+    ∙ edge-order-map distincts kinds n edge edgeBefore (λ (i j : ℕ) (h : i < n) (g : j < n). λ k. standsBefore (held .at i h .0 k) (held .at i h .1 k) (held .at j g .0 k) (held .at j g .1 k))
+    ∙ ap (sort edgeBefore) (sym (map-map (edgeOf classes marks) (pairAt lefts rights nullSafes) (tabulate itself n)) ∙ ap (map (edgeOf classes marks)) (map-itself (pairAt lefts rights nullSafes) n))
   where
     edge : ℕ → EqualityEdge
-    edge = edgeAt sheet classes marks lefts rights nullSafes
+    edge = edgeAt classes marks lefts rights nullSafes

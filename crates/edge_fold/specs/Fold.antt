@@ -4,16 +4,18 @@ use mathlib.Core.List.{List, [], _∷_, _++_}
 use lib.Ieee.{binary64, mul}
 use Rattle.float.specs.Order.{f64Zero, f64One}
 use Rattle.sheet.specs.Sheet.{Sheet}
-use Rattle.class_state.specs.State.{ClassState, equivalent, union, fromProfiles}
+use Rattle.class_state.specs.State.{equivalent, union, fromProfiles}
+use Rattle.class_state.specs.declared.EquivalenceClassState.{EquivalenceClassState}
 use Rattle.equality_pairs.specs.Pairs.{EqualityPair}
 use Rattle.equality_pairs.specs.NonNull.{nonNullMarks}
 use Rattle.edge.specs.Edge.{equalityEdgeEstimate}
+use Rattle.edge.specs.declared.EqualityEdge.{EqualityEdge}
 use Rattle.edge.specs.declared.LeftEqualityCoverage.{LeftEqualityCoverage}
 use Rattle.edge.specs.declared.LeftCoverage.{LeftCoverage}
 use Rattle.edge.specs.declared.LeftCoverage.the-variants.{Absent as NoCoverage, Present as Coverage}
 use Rattle.edge.specs.declared.EqualityEdgeEstimate.{EqualityEdgeEstimate}
 use Rattle.edge_fold.specs.Sides.{connectsInputs}
-use Rattle.edge_fold.specs.Edges.{EqualityEdge, equalityEdges}
+use Rattle.edge_fold.specs.Edges.{equalityEdges}
 use Rattle.edge_fold.specs.declared.fold.EqualityFigures.{EqualityFigures}
 
 -- ---- figures
@@ -50,21 +52,18 @@ coverageUnless same estimate = cond same [] (coverageOf (estimate .«left_covera
 -- ---- the loop
 
 pub record Folded : Type 0 where
-  pub classes : ClassState
+  pub classes : EquivalenceClassState
   pub figures : EqualityFigures
   pub coverages : List LeftEqualityCoverage
-
-abbrev pub edgeEstimate : Sheet → EqualityEdge → EqualityEdgeEstimate
-edgeEstimate sheet edge = equalityEdgeEstimate sheet (edge .left) (edge .right) (edge .nullSafe) (edge .leftNdv .value) (edge .rightNdv .value)
 
 -- an edge whose columns stand in the same inputs changes no figure
 unfoldable pub edgeFigures : Sheet → EqualityFigures → EqualityEdge → Bool → EqualityFigures
 unfolding connectsInputs equalityEdgeEstimate withEstimate
-edgeFigures sheet figures edge same = cond (connectsInputs sheet (edge .left) (edge .right)) (withEstimate figures (edgeEstimate sheet edge) same) figures
+edgeFigures sheet figures edge same = cond (connectsInputs sheet (edge .left) (edge .right)) (withEstimate figures (equalityEdgeEstimate sheet edge) same) figures
 
 unfoldable pub edgeCoverages : Sheet → EqualityEdge → Bool → List LeftEqualityCoverage
 unfolding connectsInputs equalityEdgeEstimate
-edgeCoverages sheet edge same = cond (connectsInputs sheet (edge .left) (edge .right)) (coverageUnless same (edgeEstimate sheet edge)) []
+edgeCoverages sheet edge same = cond (connectsInputs sheet (edge .left) (edge .right)) (coverageUnless same (equalityEdgeEstimate sheet edge)) []
 
 -- the union is made for every edge
 unfoldable pub withEdge : Sheet → Folded → EqualityEdge → Folded
@@ -72,7 +71,7 @@ unfolding union edgeFigures edgeCoverages
 withEdge sheet state edge =
     let same = equivalent (state .classes) (edge .left) (edge .right) in
     record {
-      classes = union sheet (state .classes) (edge .left) (edge .right) (edge .chosenNdv);
+      classes = union (state .classes) (edge .left) (edge .right) (edge .«chosen_ndv»);
       figures = edgeFigures sheet (state .figures) edge same;
       coverages = state .coverages ++ edgeCoverages sheet edge same;
     }
@@ -89,4 +88,4 @@ unfoldable pub foldedPairs : Sheet → List EqualityPair → Folded
 unfolding fromProfiles nonNullMarks equalityEdges withEdges
 foldedPairs sheet pairs =
     let classes = fromProfiles sheet in
-    withEdges sheet (record { classes = classes; figures = noEquality; coverages = [] }) (equalityEdges sheet classes (nonNullMarks pairs) pairs)
+    withEdges sheet (record { classes = classes; figures = noEquality; coverages = [] }) (equalityEdges classes (nonNullMarks pairs) pairs)

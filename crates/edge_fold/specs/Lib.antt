@@ -2,4 +2,3 @@ pub mod Sides
 pub mod Edges
 pub mod Fold
 pub mod Coverages
-pub mod Held

@@ -1,6 +1,6 @@
-// The edges of a join in their order, and what they come to: the loop of
-// join_selectivity_from_conjuncts_with_config in the source's analysis.rs.
+// The edges of a join, and one edge's part in the figures and the coverages: what
+// join_selectivity_from_conjuncts_with_config of the source's analysis.rs does in its loop.
 pub mod coverages;
-mod edges;
+pub mod edges;
 pub mod fold;
 mod sides;

@@ -2,16 +2,16 @@
 use Prim.Native.Nat.{ℕ, zero, suc, _+_, _-_, _<_, _≤_}
 use mathlib.Core.Path.{_≡_, refl, sym, ap, _∙_}
 use mathlib.Core.Bool.{Bool, true, false, _&&_, not}
-use mathlib.Core.List.{List, [], _∷_, map, List·Memᴰ, List·Memᴰ·head, List·Memᴰ·tail, List·Permᴰ}
+use mathlib.Core.List.{List, [], _∷_, map, _++_, append-nil, List·Memᴰ}
 use native.Mathlib.Omega.{arith}
-use lib.ListN.{length, getD, drop, drop-of-length-le}
-use lib.Seq.{getD-drop}
+use lib.ListN.{length, take, drop}
+use lib.Seq.{take-all, take-append-le, take-take, drop-at, length-take-le}
 use lib.Ieee.{Float, lt, eq}
 use Rattle.records.specs.Lists.{tabulateFrom, tabulate, itself}
-use Rattle.records.proofs.ListLaws.{tabulate-length, tabulate-in, in-tabulate, tabulate-step, tabulate-end}
+use Rattle.records.proofs.ListLaws.{tabulate-in, tabulate-step, tabulate-end}
 use Rattle.edge_order.specs.Sort.{insert, sort}
 use Rattle.edge_order.specs.Order.{standsBefore, numberBefore, edgeOrder}
-use Rattle.edge_order.proofs.SortLaws.{sort-perm, sort-in, in-sort, sort-length, sort-map-within}
+use Rattle.edge_order.proofs.SortLaws.{sort-map-within}
 
 -- ---- two edges
 
@@ -34,77 +34,50 @@ module _ (before : ℕ → ℕ → Bool) (n : ℕ) where
   abbrev pub sortedFrom : ℕ → List ℕ
   sortedFrom k = sort before (tabulateFrom itself k (n - k))
 
-  pub order-first : (order : List ℕ) → length order ≡ 64 → n ≤ 64 → drop (64 - n + n) order ≡ sortedFrom n
+  -- the places in front of them are as they were
+  abbrev pub orderedFrom : List ℕ → ℕ → List ℕ
+  orderedFrom order k = take (64 - n + k) order ++ sortedFrom k
+
+  pub order-first : (order : List ℕ) → length order ≡ 64 → n ≤ 64 → order ≡ orderedFrom order n
   unfolding sort
-  order-first order h k = drop-of-length-le order {i = 64 - n + n} (omega arith) ∙ ap (sort before) (sym (tabulate-end itself n n (omega arith)))
+  order-first order h k =
+      sym (append-nil order)
+      ∙ ap (λ (l : List ℕ). l ++ []) (sym (take-all (64 - n + n) order (omega arith)))
+      ∙ ap (λ (l : List ℕ). take (64 - n + n) order ++ sort before l) (sym (tabulate-end itself n n (omega arith)))
 
   -- one more number in front
-  pub order-next : (k : ℕ) (order next : List ℕ) → 1 ≤ k → k ≤ n → drop (64 - n + k) order ≡ sortedFrom k → drop (64 - n + (k - 1)) next ≡ insert before (k - 1) (drop (64 - n + (k - 1) + 1) order)
-      → drop (64 - n + (k - 1)) next ≡ sortedFrom (k - 1)
+  pub order-next : (k : ℕ) (order next start : List ℕ) → length start ≡ 64 → n ≤ 64 → 1 ≤ k → k ≤ n → order ≡ orderedFrom start k
+      → next ≡ take (64 - n + (k - 1)) order ++ insert before (k - 1) (drop (64 - n + (k - 1) + 1) order)
+      → next ≡ orderedFrom start (k - 1)
   unfolding sort
-  order-next k order next h l f g =
+  order-next k order next start s m h l f g =
       g
-      ∙ ap (insert before (k - 1)) (go (64 - n + (k - 1) + 1) (k - 1 + 1) (omega arith) (omega arith))
-      ∙ ap (sort before) (sym (tabulate-step itself (k - 1) n (omega arith)))
+      ∙ ap (λ (r : List ℕ). r ++ insert before (k - 1) (drop (64 - n + (k - 1) + 1) order)) front
+      ∙ ap (λ (r : List ℕ). take (64 - n + (k - 1)) start ++ r)
+      (ap (insert before (k - 1)) (go (64 - n + (k - 1) + 1) (k - 1 + 1) (omega arith) (omega arith))
+      ∙ ap (sort before) (sym (tabulate-step itself (k - 1) n (omega arith))))
     where
-      go : (a b : ℕ) → a ≡ 64 - n + k → b ≡ k → drop a order ≡ sortedFrom b
-      go a b p q = rw (p, q) f
+      held : length (take (64 - n + k) start) ≡ 64 - n + k
+      held = length-take-le (64 - n + k) start (omega arith)
 
-  pub order-all : (k : ℕ) (order : List ℕ) → k ≤ 0 → drop (64 - n + k) order ≡ sortedFrom k → drop (64 - n) order ≡ sort before (tabulate itself n)
-  order-all k order h f = go (64 - n + k) (n - k) k (omega arith) (omega arith) (omega arith) f
+      front : take (64 - n + (k - 1)) order ≡ take (64 - n + (k - 1)) start
+      front =
+          ap (take (64 - n + (k - 1))) f
+          ∙ take-append-le (64 - n + (k - 1)) (take (64 - n + k) start) (sortedFrom k) (let e = held in omega arith)
+          ∙ take-take (64 - n + (k - 1)) (64 - n + k) start (omega arith)
+
+      go : (a b : ℕ) → a ≡ 64 - n + k → b ≡ k → drop a order ≡ sortedFrom b
+      go a b p q = rw (p, q) (ap (drop (64 - n + k)) f ∙ drop-at (take (64 - n + k) start) (sortedFrom k) (64 - n + k) held)
+
+  pub order-all : (k : ℕ) (order start : List ℕ) → k ≤ 0 → order ≡ orderedFrom start k → order ≡ take (64 - n) start ++ sort before (tabulate itself n)
+  order-all k order start h f = go (64 - n + k) (n - k) k (omega arith) (omega arith) (omega arith) f
     where
-      go : (a b c : ℕ) → a ≡ 64 - n → b ≡ n → c ≡ 0 → drop a order ≡ sort before (tabulateFrom itself c b) → drop (64 - n) order ≡ sort before (tabulate itself n)
+      go : (a b c : ℕ) → a ≡ 64 - n → b ≡ n → c ≡ 0 → order ≡ take a start ++ sort before (tabulateFrom itself c b) → order ≡ take (64 - n) start ++ sort before (tabulate itself n)
       go a b c p q r f = rw (p, q, r) at f
 
 -- ---- what stands in it
 
 module _ (distincts : List Float) (nullSafes : List Bool) (n : ℕ) where
-  pub edge-order-perm : List·Permᴰ (edgeOrder distincts nullSafes n) (tabulate itself n)
-  unfolding edgeOrder
-  edge-order-perm = sort-perm (numberBefore distincts nullSafes) (tabulate itself n)
-
-  pub edge-order-length : length (edgeOrder distincts nullSafes n) ≡ n
-  unfolding edgeOrder
-  edge-order-length = sort-length (numberBefore distincts nullSafes) (tabulate itself n) ∙ tabulate-length itself n
-
-  -- the numbers below n, and no others
-  pub edge-order-below : (i : ℕ) → List·Memᴰ i (edgeOrder distincts nullSafes n) → i < n
-  unfolding edgeOrder
-  edge-order-below i m =
-      let r = tabulate-in itself n i (sort-in (numberBefore distincts nullSafes) (tabulate itself n) i m) in
-      less (r .0) i (r .1) (r .2)
-    where
-      less : (j i : ℕ) → j < n → i ≡ j → i < n
-      less j i h e = omega arith
-
-  pub in-edge-order : (i : ℕ) → i < n → List·Memᴰ i (edgeOrder distincts nullSafes n)
-  unfolding edgeOrder
-  in-edge-order i h = in-sort (numberBefore distincts nullSafes) (tabulate itself n) i (in-tabulate itself n i h)
-
-  at-in : (l : List ℕ) (j : ℕ) → j < length l → List·Memᴰ (getD l j 0) l
-  at-in [] j h = absurd (none j h)
-    where
-      none : (j : ℕ) → j < 0 → ⊥
-      none j h = omega arith
-  at-in (x ∷ l) zero h = List·Memᴰ·head refl
-  at-in (x ∷ l) (suc j) h = List·Memᴰ·tail (at-in l j (less j (length l) h))
-    where
-      less : (j m : ℕ) → suc j < suc m → j < m
-      less j m h = omega arith
-
-  pub edge-order-at : (j : ℕ) → j < n → getD (edgeOrder distincts nullSafes n) j 0 < n
-  edge-order-at j h = edge-order-below (getD (edgeOrder distincts nullSafes n) j 0) (at-in (edgeOrder distincts nullSafes n) j (let e = edge-order-length in omega arith))
-
-  -- as it is held in the last n places
-  pub held-at : (order : List ℕ) (m : ℕ) → drop m order ≡ edgeOrder distincts nullSafes n → (j : ℕ) → j < n → getD order (m + j) 0 < n
-  held-at order m e j h =
-      let a = sym (getD-drop m order j 0) ∙ ap (λ (l : List ℕ). getD l j 0) e in
-      let b = edge-order-at j h in
-      less (getD order (m + j) 0) (getD (edgeOrder distincts nullSafes n) j 0) a b
-    where
-      less : (x y : ℕ) → x ≡ y → y < n → x < n
-      less x y e h = omega arith
-
   -- edges that are told by their numbers are sorted as their numbers are
   pub edge-order-map : {A : Type 0} (f : ℕ → A) (before : A → A → Bool) → ((i j : ℕ) → i < n → j < n → numberBefore distincts nullSafes i j ≡ before (f i) (f j)) → map f (edgeOrder distincts nullSafes n) ≡ sort before (map f (tabulate itself n))
   unfolding edgeOrder

@@ -6,7 +6,7 @@ use mathlib.Core.List.{List, [], _∷_, _++_, append-assoc}
 use native.Mathlib.Omega.{arith}
 use native.Mathlib.Numerals.{add-one}
 use lib.ListN.{length, getD, take, drop, set, drop-of-length-le}
-use lib.Seq.{take-suc-set, drop-set-lt, drop-append-le, drop-cons, set-split, length-take-le}
+use lib.Seq.{take-suc-set, drop-set-lt, drop-cons, set-split}
 use Rattle.edge_order.specs.Sort.{insert}
 
 -- within a list, what stands for a missing element does not matter
@@ -34,55 +34,49 @@ module _ {A : Type 0} (before : A → A → Bool) (x : A) where
   unfolding insert
   insert-last = refl
 
-  -- from `at` on: those that have moved up to j, then x put into what stands behind j
-  unfoldable pub placing : ℕ → List A → ℕ → List A
-  placing at order j = drop at (take j order) ++ insert before x (drop (j + 1) order)
+  stored : (order : List A) (j : ℕ) (a : A) → j < length order → set order j a ≡ take j order ++ a ∷ drop (j + 1) order
+  stored order j a l = rw add-one (set-split order j a l)
 
-  -- what stands from `at` on, once a has been stored at j
-  stored : (at : ℕ) (order : List A) (j : ℕ) (a : A) → at ≤ j → j < length order → drop at (set order j a) ≡ drop at (take j order) ++ a ∷ drop (j + 1) order
-  stored at order j a h l =
-      ap (drop at) (set-split order j a l)
-      ∙ drop-append-le at (take j order) (a ∷ drop (suc j) order) (let n = length-take-le j order (omega arith) in omega arith)
-      ∙ rw add-one refl
+  -- what stands before j, then x put into what stands behind it
+  unfoldable pub placing : List A → ℕ → List A
+  placing order j = take j order ++ insert before x (drop (j + 1) order)
 
-  pub place-first : (at : ℕ) (order : List A) → placing at order at ≡ insert before x (drop (at + 1) order)
+  -- nothing has moved yet
+  pub place-first : (order : List A) (at : ℕ) → placing order at ≡ take at order ++ insert before x (drop (at + 1) order)
   unfolding placing
-  place-first at order = ap (λ (p : List A). p ++ insert before x (drop (at + 1) order)) (none at order)
-    where
-      none : (n : ℕ) (l : List A) → drop n (take n l) ≡ []
-      none zero l = refl
-      none (suc n) [] = refl
-      none (suc n) (z ∷ l) = none n l
+  place-first order at = refl
 
   -- y stands before x: it moves
-  pub place-past : (at : ℕ) (order : List A) (j : ℕ) (d y : A) → at ≤ j → j + 1 < length order → y ≡ getD order (j + 1) d → before y x ≡ true → placing at (set order j y) (j + 1) ≡ placing at order j
+  pub place-past : (order : List A) (j : ℕ) (d y : A) → j + 1 < length order → y ≡ getD order (j + 1) d → before y x ≡ true → placing (set order j y) (j + 1) ≡ placing order j
   unfolding placing
-  place-past at order j d y h l is t =
-      ap (λ (p : List A). drop at p ++ insert before x (drop (j + 1 + 1) (set order j y))) (rw add-one (take-suc-set order j y (omega arith)))
-      ∙ ap (λ (p : List A). p ++ insert before x (drop (j + 1 + 1) (set order j y))) (drop-append-le at (take j order) (y ∷ []) (let n = length-take-le j order (omega arith) in omega arith))
-      ∙ append-assoc (drop at (take j order)) (y ∷ []) (insert before x (drop (j + 1 + 1) (set order j y)))
-      ∙ ap (λ (r : List A). drop at (take j order) ++ r)
+  place-past order j d y l is t =
+      ap (λ (p : List A). p ++ insert before x (drop (j + 1 + 1) (set order j y))) moved
+      ∙ append-assoc (take j order) (y ∷ []) (insert before x (drop (j + 1 + 1) (set order j y)))
+      ∙ ap (λ (r : List A). take j order ++ r)
       (ap (λ (r : List A). y ∷ insert before x r) (drop-set-lt (j + 1 + 1) order j y (omega arith))
       ∙ sym (insert-past y (drop (j + 1 + 1) order) t)
       ∙ ap (insert before x) (ap (λ (z : A). z ∷ drop (j + 1 + 1) order) is ∙ ap (λ (n : ℕ). getD order (j + 1) d ∷ drop n order) (add-one (j + 1)) ∙ sym (drop-cons order (j + 1) d l)))
+    where
+      moved : take (j + 1) (set order j y) ≡ take j order ++ (y ∷ [])
+      moved = rw add-one (take-suc-set order j y (omega arith))
 
   -- y does not: x stands in front of it
-  pub place-here : (at : ℕ) (order : List A) (j : ℕ) (d y : A) → at ≤ j → j + 1 < length order → y ≡ getD order (j + 1) d → before y x ≡ false → drop at (set order j x) ≡ placing at order j
+  pub place-here : (order : List A) (j : ℕ) (d y : A) → j + 1 < length order → y ≡ getD order (j + 1) d → before y x ≡ false → set order j x ≡ placing order j
   unfolding placing
-  place-here at order j d y h l is t =
-      stored at order j x h (omega arith)
-      ∙ ap (λ (r : List A). drop at (take j order) ++ r)
+  place-here order j d y l is t =
+      stored order j x (omega arith)
+      ∙ ap (λ (r : List A). take j order ++ r)
       (ap (λ (r : List A). x ∷ r) rest ∙ sym (insert-here (getD order (j + 1) d) (drop (suc (j + 1)) order) (ap (λ (z : A). before z x) (sym is) ∙ t)) ∙ ap (insert before x) (sym rest))
     where
       rest : drop (j + 1) order ≡ getD order (j + 1) d ∷ drop (suc (j + 1)) order
       rest = drop-cons order (j + 1) d l
 
   -- nothing is left behind j
-  pub place-last : (at : ℕ) (order : List A) (j : ℕ) → at ≤ j → j < length order → length order ≤ j + 1 → drop at (set order j x) ≡ placing at order j
+  pub place-last : (order : List A) (j : ℕ) → j < length order → length order ≤ j + 1 → set order j x ≡ placing order j
   unfolding placing
-  place-last at order j h l m =
-      stored at order j x h l
-      ∙ ap (λ (r : List A). drop at (take j order) ++ r) (ap (λ (r : List A). x ∷ r) none ∙ sym insert-last ∙ ap (insert before x) (sym none))
+  place-last order j l m =
+      stored order j x l
+      ∙ ap (λ (r : List A). take j order ++ r) (ap (λ (r : List A). x ∷ r) none ∙ sym insert-last ∙ ap (insert before x) (sym none))
     where
       none : drop (j + 1) order ≡ []
       none = drop-of-length-le order m

@@ -73,9 +73,6 @@ module _ {ℓ} {A B : Type ℓ} (f : A → B) (b1 : A → A → Bool) (b2 : B �
       insert-map x (sort b1 xs) (λ (y : A) (m : List·Memᴰ y (sort b1 xs)). h y x (List·Memᴰ·tail (sort-in b1 xs y m)) (List·Memᴰ·head refl))
       ∙ ap (insert b2 (f x)) (sort-map-within xs (λ (y z : A) (m : List·Memᴰ y xs) (n : List·Memᴰ z xs). h y z (List·Memᴰ·tail m) (List·Memᴰ·tail n)))
 
-  pub sort-map : (l : List A) → ((x y : A) → b1 x y ≡ b2 (f x) (f y)) → map f (sort b1 l) ≡ sort b2 (map f l)
-  sort-map l h = sort-map-within l (λ (x y : A) (m : List·Memᴰ x l) (n : List·Memᴰ y l). h x y)
-
 module _ {ℓ} {A : Type ℓ} (b1 b2 : A → A → Bool) where
   insert-cong : (x : A) (l : List A) → ((y : A) → List·Memᴰ y l → b1 y x ≡ b2 y x) → insert b1 x l ≡ insert b2 x l
   unfolding insert

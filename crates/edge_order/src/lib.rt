@@ -1,8 +1,9 @@
 // The order in which a join's edges are taken up: `equality_edges.sort_by` of the source's analysis.rs.
 ghost use mathlib.Core.Path.{_≡_};
 ghost use mathlib.Core.Bool.{false, _&&_, not};
+ghost use mathlib.Core.List.{_++_};
 ghost use Prim.Native.Nat.{_+_, _-_, _<_, _≤_};
-ghost use lib.ListN.{length, getD, drop};
+ghost use lib.ListN.{length, getD, take, drop};
 ghost use Rattle.float.specs.Order.{f64Zero};
 ghost use Rattle.edge_order.specs.Sort.{insert};
 ghost use Rattle.edge_order.specs.Order.{standsBefore, numberBefore, edgeOrder};
@@ -63,7 +64,7 @@ fn number_before(distincts: &[f64], null_safes: &[bool], i: u8, j: u8) -> bool
 // x goes into the sorted rest behind `at`; those that stand before it move one place to the front.
 fn place(distincts: &[f64], null_safes: &[bool], order: &mut [u8], at: usize, x: u8)
     requires { ⌜ (at < 64) × (length (now order) ≡ 64) ⌝ }
-    ensures { λ _. ⌜ drop at (now (order .exit)) ≡ insert (numberBefore (now (distincts .entry)) (now («null_safes» .entry))) x (drop (at + 1) (now (order .entry))) ⌝ }
+    ensures { λ _. ⌜ now (order .exit) ≡ take at (now (order .entry)) ++ insert (numberBefore (now (distincts .entry)) (now («null_safes» .entry))) x (drop (at + 1) (now (order .entry))) ⌝ }
 {
     let mut j = at;
     while j < 63 {
@@ -81,7 +82,7 @@ fn place(distincts: &[f64], null_safes: &[bool], order: &mut [u8], at: usize, x:
 // The numbers of n edges in their order, in the last n places.
 pub fn edge_order(distincts: &[f64], null_safes: &[bool], n: usize, order: &mut [u8])
     requires { ⌜ (n ≤ 64) × (length (now order) ≡ 64) ⌝ }
-    ensures { λ _. ⌜ drop (64 - n) (now (order .exit)) ≡ edgeOrder (now (distincts .entry)) (now («null_safes» .entry)) n ⌝ }
+    ensures { λ _. ⌜ now (order .exit) ≡ take (64 - n) (now (order .entry)) ++ edgeOrder (now (distincts .entry)) (now («null_safes» .entry)) n ⌝ }
 {
     let mut k = n;
     while k > 0 {

@@ -2,17 +2,17 @@
 use Prim.Native.Nat.{ℕ, zero, suc, _+_, _-_, _<_, _≤_}
 use mathlib.Core.Path.{_≡_, refl, sym, ap, _∙_}
 use mathlib.Core.Logic.{inl, inr, _⊎_}
-use mathlib.Core.Bool.{Bool, true, false, cond, _||_, Bool·beq, false≢true, true≢false}
-use mathlib.Core.List.{List, [], _∷_}
+use mathlib.Core.Bool.{Bool, true, false, cond, not, _||_, Bool·beq, false≢true, true≢false}
+use mathlib.Core.List.{List, [], _∷_, List·Memᴰ, List·Memᴰ·head, List·Memᴰ·tail}
 use native.Mathlib.Omega.{arith}
-use borrow.Author.Tests.{eqb-true}
+use borrow.Author.Tests.{eqb-true, eq-eqb, ne-eqb, not-false}
 use lib.Dec.{eqb}
-use lib.ListN.{getD, set}
+use lib.ListN.{length, getD, set, length-set}
 use lib.Seq.{set-getD}
 use Rattle.records.specs.Lists.{tabulateFrom}
 use Rattle.records.proofs.ListLaws.{tabulate-step, tabulate-end}
 use Rattle.equality_pairs.specs.Pairs.{EqualityPair, pairAt, pairsIn}
-use Rattle.equality_pairs.specs.NonNull.{isMarked, withBoth, withOrdinary, extended, pass, count, passes}
+use Rattle.equality_pairs.specs.NonNull.{isMarked, withBoth, withOrdinary, extended, extends, pass, passExtends, count, passes}
 
 -- ---- a pair
 
@@ -31,6 +31,12 @@ module _ (marks : List Bool) (pair : EqualityPair) (x y : Bool) (left : x ≡ is
       go true false l r e = absurd (false≢true e)
       go false true l r e = absurd (false≢true e)
       go false false l r e = refl
+
+  pub extends-even : (changed : Bool) → Bool·beq x y ≡ true → changed ≡ (extends marks pair || changed)
+  extends-even changed e = ap (λ (b : Bool). not b || changed) (sym e ∙ (λ i. Bool·beq (left i) (right i)))
+
+  pub extends-uneven : (changed : Bool) → Bool·beq x y ≡ false → true ≡ (extends marks pair || changed)
+  extends-uneven changed e = ap (λ (b : Bool). not b || changed) (sym e ∙ (λ i. Bool·beq (left i) (right i)))
 
   -- one of the two
   pub extended-uneven : (out out′ : List Bool) → Bool·beq x y ≡ false → out ≡ set marks (pair .left) true → out′ ≡ set out (pair .right) true → out′ ≡ extended marks pair
@@ -74,6 +80,45 @@ module _ (lefts rights : List ℕ) (nullSafes : List Bool) where
   pub pass-end : (marks : List Bool) (i n : ℕ) → n ≤ i → marks ≡ pass marks (restFrom i n)
   unfolding pass
   pass-end marks i n h = ap (pass marks) (sym (tabulate-end (pairAt lefts rights nullSafes) i n h))
+
+  -- what the pairs from the i-th on extend, or those before it did
+  pub extends-next : (marks out : List Bool) (changed changed′ : Bool) (i n : ℕ) → i < n → out ≡ extended marks (pairAt lefts rights nullSafes i) → changed′ ≡ (extends marks (pairAt lefts rights nullSafes i) || changed)
+      → (passExtends out (restFrom (i + 1) n) || changed′) ≡ (passExtends marks (restFrom i n) || changed)
+  unfolding passExtends
+  extends-next marks out changed changed′ i n h e f =
+      (λ k. passExtends (e k) (restFrom (i + 1) n) || f k)
+      ∙ turned (extends marks pair) (passExtends (extended marks pair) (restFrom (i + 1) n)) changed
+      ∙ ap (λ (l : List EqualityPair). passExtends marks l || changed) (sym (tabulate-step (pairAt lefts rights nullSafes) i n h))
+    where
+      pair : EqualityPair
+      pair = pairAt lefts rights nullSafes i
+
+      turned : (a b c : Bool) → (b || (a || c)) ≡ ((a || b) || c)
+      turned true true c = refl
+      turned true false c = refl
+      turned false b c = refl
+
+  pub extends-end : (marks : List Bool) (changed : Bool) (i n : ℕ) → n ≤ i → changed ≡ (passExtends marks (restFrom i n) || changed)
+  unfolding passExtends
+  extends-end marks changed i n h = ap (λ (l : List EqualityPair). passExtends marks l || changed) (sym (tabulate-end (pairAt lefts rights nullSafes) i n h))
+
+  pub extends-all : (marks : List Bool) (n : ℕ) → (passExtends marks (restFrom 0 n) || false) ≡ passExtends marks (pairsIn lefts rights nullSafes n)
+  extends-all marks n = or-false (passExtends marks (restFrom 0 n)) ∙ ap (passExtends marks) (rest-first n)
+    where
+      or-false : (b : Bool) → (b || false) ≡ b
+      or-false true = refl
+      or-false false = refl
+
+-- a pass that extends no marks leaves them
+pub pass-same : (marks : List Bool) (pairs : List EqualityPair) → passExtends marks pairs ≡ false → pass marks pairs ≡ marks
+unfolding pass passExtends
+pass-same marks [] h = refl
+pass-same marks (pair ∷ pairs) h = go (Bool·beq (isMarked marks (pair .left)) (isMarked marks (pair .right))) (pass-same (extended marks pair) pairs) (extended-even marks pair _ _ refl refl) h
+  where
+    go : (b : Bool) → (passExtends (extended marks pair) pairs ≡ false → pass (extended marks pair) pairs ≡ extended marks pair) → (b ≡ true → marks ≡ extended marks pair)
+        → (not b || passExtends (extended marks pair) pairs) ≡ false → pass (extended marks pair) pairs ≡ marks
+    go true r e h = r h ∙ sym (e refl)
+    go false r e h = absurd (true≢false h)
 
 -- ---- how many are marked
 
@@ -125,6 +170,68 @@ pass-still marks pairs e = go (pass-more marks pairs)
         none : (m n : ℕ) → n ≡ m → m < n → ⊥
         none m n e h = omega arith
 
+-- ---- what extends marks adds a column, where the columns have marks
+
+-- a column that is not marked yet
+set-adds : (marks : List Bool) (column : ℕ) → column < length marks → isMarked marks column ≡ false → count marks < count (set marks column true)
+unfolding count
+set-adds [] column h e = absurd (none column h)
+  where
+    none : (n : ℕ) → n < 0 → ⊥
+    none n h = omega arith
+set-adds (true ∷ marks) zero h e = absurd (true≢false e)
+set-adds (false ∷ marks) zero h e = omega arith
+set-adds (x ∷ marks) (suc column) h e =
+    let more = set-adds marks column (less column (length marks) h) e in
+    omega arith
+  where
+    less : (i n : ℕ) → suc i < suc n → i < n
+    less i n h = omega arith
+
+extended-adds : (marks : List Bool) (pair : EqualityPair) → pair .left < length marks → pair .right < length marks → extends marks pair ≡ true → count marks < count (extended marks pair)
+unfolding withBoth
+extended-adds marks pair l r = go (isMarked marks (pair .left)) (isMarked marks (pair .right)) refl refl
+  where
+    go : (x y : Bool) → isMarked marks (pair .left) ≡ x → isMarked marks (pair .right) ≡ y → not (Bool·beq x y) ≡ true → count marks < count (cond (x || y) (withBoth marks pair) marks)
+    go true true f g e = absurd (false≢true e)
+    go true false f g e = rw (set-marked marks (pair .left) f) (set-adds marks (pair .right) r g)
+    go false true f g e =
+        let first = set-adds marks (pair .left) l f in
+        let then = more-count (set marks (pair .left) true) (withBoth marks pair) (set-more (set marks (pair .left) true) (pair .right)) in
+        omega arith
+    go false false f g e = absurd (false≢true e)
+
+extended-length : (marks : List Bool) (pair : EqualityPair) → length (extended marks pair) ≡ length marks
+unfolding withBoth
+extended-length marks pair = go (isMarked marks (pair .left) || isMarked marks (pair .right))
+  where
+    go : (b : Bool) → length (cond b (withBoth marks pair) marks) ≡ length marks
+    go true = length-set (set marks (pair .left) true) (pair .right) true ∙ length-set marks (pair .left) true
+    go false = refl
+
+-- both columns of each pair
+abbrev HaveMarks : List Bool → List EqualityPair → Type 0
+HaveMarks marks pairs = (pair : EqualityPair) → List·Memᴰ pair pairs → (pair .left < length marks) × (pair .right < length marks)
+
+-- a pass extends the marks exactly when it adds a column
+pub pass-extends : (marks : List Bool) (pairs : List EqualityPair) → HaveMarks marks pairs → passExtends marks pairs ≡ not (eqb (count (pass marks pairs)) (count marks))
+unfolding pass passExtends
+pass-extends marks [] have = rw (eq-eqb (count marks) (count marks) refl) refl
+pass-extends marks (pair ∷ pairs) have =
+    go (extends marks pair) refl (have pair (List·Memᴰ·head refl)) (pass-extends (extended marks pair) pairs (λ (p : EqualityPair) (m : List·Memᴰ p pairs). rw (extended-length marks pair) (have p (List·Memᴰ·tail m))))
+  where
+    rest : List Bool
+    rest = pass (extended marks pair) pairs
+
+    apart : (m n k : ℕ) → m < n → n ≤ k → k ≡ m → ⊥
+    apart m n k h l e = omega arith
+
+    go : (b : Bool) → extends marks pair ≡ b → (pair .left < length marks) × (pair .right < length marks) → passExtends (extended marks pair) pairs ≡ not (eqb (count rest) (count (extended marks pair)))
+        → (b || passExtends (extended marks pair) pairs) ≡ not (eqb (count rest) (count marks))
+    go true e within r =
+        sym (ap not (ne-eqb (count rest) (count marks) (apart _ _ _ (extended-adds marks pair (within .0) (within .1) e) (more-count (extended marks pair) rest (pass-more (extended marks pair) pairs)))))
+    go false e within r = r ∙ ap (λ (m : List Bool). not (eqb (count rest) (count m))) (sym (extended-even marks pair _ _ refl refl (not-false _ e)))
+
 -- ---- passes
 
 module _ (pairs : List EqualityPair) where
@@ -150,8 +257,8 @@ module _ (pairs : List EqualityPair) where
 
   -- the turns of a loop with k passes to go
 
-  pub passes-last : (k : ℕ) (marks out : List Bool) → out ≡ pass marks pairs → out ≡ marks → out ≡ passes k marks pairs
-  passes-last k marks out e f = f ∙ sym (passes-still k marks (sym e ∙ f))
+  pub passes-last : (k : ℕ) (marks out : List Bool) → out ≡ pass marks pairs → passExtends marks pairs ≡ false → out ≡ passes k marks pairs
+  passes-last k marks out e f = let still = pass-same marks pairs f in e ∙ still ∙ sym (passes-still k marks still)
 
   pub passes-turn : (k : ℕ) (marks out : List Bool) → 1 ≤ k → out ≡ pass marks pairs → passes (k - 1) out pairs ≡ passes k marks pairs
   passes-turn zero marks out h e = absurd (none h)

@@ -1,6 +1,6 @@
 -- The columns that equalities show to be non-null (`non_null_equality_columns` in the source's analysis.rs): a mark for each column. Definitions only.
 use Prim.Native.Nat.{ℕ, zero, suc, _+_}
-use mathlib.Core.Bool.{Bool, true, false, _||_, cond}
+use mathlib.Core.Bool.{Bool, true, false, _||_, not, cond, Bool·beq}
 use mathlib.Core.List.{List, [], _∷_}
 use lib.Dec.{eqb}
 use lib.ListN.{getD, set, replicate}
@@ -24,11 +24,21 @@ withOrdinary marks (pair ∷ pairs) = withOrdinary (cond (pair .nullSafe) marks 
 abbrev pub extended : List Bool → EqualityPair → List Bool
 extended marks pair = cond (isMarked marks (pair .left) || isMarked marks (pair .right)) (withBoth marks pair) marks
 
+-- whether one of the two columns is marked and the other is not
+abbrev pub extends : List Bool → EqualityPair → Bool
+extends marks pair = not (Bool·beq (isMarked marks (pair .left)) (isMarked marks (pair .right)))
+
 -- once over all pairs, of either kind
 unfoldable pub pass : List Bool → List EqualityPair → List Bool
 unfolding withBoth
 pass marks [] = marks
 pass marks (pair ∷ pairs) = pass (extended marks pair) pairs
+
+-- whether any pair extends the marks that it comes upon
+unfoldable pub passExtends : List Bool → List EqualityPair → Bool
+unfolding withBoth
+passExtends marks [] = false
+passExtends marks (pair ∷ pairs) = extends marks pair || passExtends (extended marks pair) pairs
 
 unfoldable pub count : List Bool → ℕ
 count [] = 0

@@ -17,6 +17,15 @@ pub record EqualityPair : Type 0 where
   pub right : ℕ
   pub nullSafe : Bool
 
+abbrev pub leftOf : EqualityPair → ℕ
+leftOf pair = pair .left
+
+abbrev pub rightOf : EqualityPair → ℕ
+rightOf pair = pair .right
+
+abbrev pub kindOf : EqualityPair → Bool
+kindOf pair = pair .nullSafe
+
 -- whether the expression is itself one under which two nulls are equal
 abbrev pub nullSafeIn : Expression → Bool
 nullSafeIn (Literal value) = false

@@ -35,12 +35,13 @@ fn put_if(out: &mut [u8], marked: bool, column: u16) -> usize
     0
 }
 
-pub fn put_marked(marks: &[bool], out: &mut [u8]) -> usize
-    requires { ⌜ 2 * length (markedColumns (now marks)) ≤ length (now out) ⌝ }
+// All of them, where it is known how many there are.
+pub fn put_marked(marks: &[bool], count: usize, out: &mut [u8]) -> usize
+    requires { ⌜ (count ≡ length (markedColumns (now marks))) × (2 * length (markedColumns (now marks)) ≤ length (now out)) ⌝ }
     ensures { λ r. ⌜ r ≡ 2 * length (markedColumns (now (marks .entry))) ⌝ }
     ensures { λ _. ⌜ now (out .exit) ≡ onto (numbersBytes (markedColumns (now (marks .entry)))) (now (out .entry)) ⌝ }
 {
-    let size = 2 * marked_count(marks);
+    let size = 2 * count;
     let mut at: usize = 0;
     let mut i: u16 = 0;
     while at < size {

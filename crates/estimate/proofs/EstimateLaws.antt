@@ -18,6 +18,7 @@ use Rattle.le.specs.Floats.{f64At, f64Bytes}
 use Rattle.le.proofs.FieldLaws.{Bytes, field-below, bytes-back, field-found, cut}
 use Rattle.rules.specs.Rules.{ask, orElse}
 use Rattle.estimate.specs.Bytes.{sourceNumber, sourceOf, lowerFlag, upperFlag, flagsNumber, optionAt, estimateAt, figureLawful, boundRefusal, estimateRefusal, optionBits, estimateBytes, LawfulBound, LawfulEstimate}
+use Rattle.estimate.specs.Estimates.{estimateOf, lowerBound, upperBound}
 use Rattle.estimate.specs.declared.Estimate.{Estimate}
 use Rattle.estimate.specs.declared.EstimateSource.{EstimateSource}
 use Rattle.estimate.specs.declared.EstimateSource.the-variants.{Exact, Catalog, Sketch, Derived, Default}
@@ -124,7 +125,7 @@ unfolding estimateBytes fieldBytes
 estimate-length e = refl
 
 -- the five fields one after the other, as `put_estimate` puts them
-pub fields-joined : (e : Estimate) (source flags lower upper : ℕ) → source ≡ sourceNumber (e .source) → flags ≡ flagsNumber e → lower ≡ optionBits (e .lower) → upper ≡ optionBits (e .upper)
+pub fields-joined : (e : Estimate) (source flags lower upper : ℕ) → source ≡ sourceNumber (e .source) → flags ≡ flagsNumber e → lower ≡ optionBits (lowerBound e) → upper ≡ optionBits (upperBound e)
     → ((((source ∷ []) ++ (flags ∷ [])) ++ f64Bytes (e .value)) ++ u64Bytes lower) ++ u64Bytes upper ≡ estimateBytes e
 unfolding estimateBytes fieldBytes
 fields-joined e source flags lower upper a b c d = λ i. ((((a i ∷ []) ++ (b i ∷ [])) ++ f64Bytes (e .value)) ++ u64Bytes (c i)) ++ u64Bytes (d i)
@@ -177,16 +178,16 @@ option-bits-small x (inr h) = rw h (omega arith)
 value-at : (e : Estimate) (t : List ℕ) → T (fits binary64 (e .value)) → f64At (estimateBytes e ++ t) 2 ≡ e .value
 unfolding estimateBytes fieldBytes
 value-at e t h =
-    ap (ofBits binary64) (field-found 8 (toBits binary64 (e .value)) (estimateBytes e ++ t) (u64Bytes (optionBits (e .lower)) ++ (u64Bytes (optionBits (e .upper)) ++ t)) 2 (bits-small (e .value) h) refl)
+    ap (ofBits binary64) (field-found 8 (toBits binary64 (e .value)) (estimateBytes e ++ t) (u64Bytes (optionBits (lowerBound e)) ++ (u64Bytes (optionBits (upperBound e)) ++ t)) 2 (bits-small (e .value) h) refl)
     ∙ ofBits-toBits binary64 (e .value) h
 
-lower-at : (e : Estimate) (t : List ℕ) → LawfulBound (e .lower) → u64At (estimateBytes e ++ t) 10 ≡ optionBits (e .lower)
+lower-at : (e : Estimate) (t : List ℕ) → LawfulBound (lowerBound e) → u64At (estimateBytes e ++ t) 10 ≡ optionBits (lowerBound e)
 unfolding estimateBytes fieldBytes
-lower-at e t h = field-found 8 (optionBits (e .lower)) (estimateBytes e ++ t) (u64Bytes (optionBits (e .upper)) ++ t) 10 (option-bits-small (e .lower) h) refl
+lower-at e t h = field-found 8 (optionBits (lowerBound e)) (estimateBytes e ++ t) (u64Bytes (optionBits (upperBound e)) ++ t) 10 (option-bits-small (lowerBound e) h) refl
 
-upper-at : (e : Estimate) (t : List ℕ) → LawfulBound (e .upper) → u64At (estimateBytes e ++ t) 18 ≡ optionBits (e .upper)
+upper-at : (e : Estimate) (t : List ℕ) → LawfulBound (upperBound e) → u64At (estimateBytes e ++ t) 18 ≡ optionBits (upperBound e)
 unfolding estimateBytes fieldBytes
-upper-at e t h = field-found 8 (optionBits (e .upper)) (estimateBytes e ++ t) t 18 (option-bits-small (e .upper) h) refl
+upper-at e t h = field-found 8 (optionBits (upperBound e)) (estimateBytes e ++ t) t 18 (option-bits-small (upperBound e) h) refl
 
 -- a bound read where its pattern stands
 given-at : (x : OptionF64) (s : List ℕ) (k : ℕ) → x .present ≡ true → T (fits binary64 (x .number)) → u64At s k ≡ optionBits x → f64At s k ≡ x .number
@@ -210,22 +211,22 @@ bound-kept p x s k e (inr h) u =
 pub read-back : (e : Estimate) (t : List ℕ) → LawfulEstimate e → estimateAt (estimateBytes e ++ t) 0 ≡ e
 unfolding estimateBytes estimateAt
 read-back e t h =
-    let f = flag-bits (e .lower .present) (e .upper .present) in
+    let f = flag-bits (e .«has_lower») (e .«has_upper») in
     let value = value-at e t (h .value .held) in
-    let lower = bound-read (lowerFlag (flagsNumber e)) (e .lower) (estimateBytes e ++ t) 10 (f .0) (h .lower) (lower-at e t (h .lower)) in
-    let upper = bound-read (upperFlag (flagsNumber e)) (e .upper) (estimateBytes e ++ t) 18 (f .1) (h .upper) (upper-at e t (h .upper)) in
-    λ i. record { value = value i; lower = lower i; upper = upper i; source = source-known (e .source) .1 i }
+    let lower = bound-read (lowerFlag (flagsNumber e)) (lowerBound e) (estimateBytes e ++ t) 10 (f .0) (h .lower) (lower-at e t (h .lower)) in
+    let upper = bound-read (upperFlag (flagsNumber e)) (upperBound e) (estimateBytes e ++ t) 18 (f .1) (h .upper) (upper-at e t (h .upper)) in
+    λ i. estimateOf (value i) (lower i) (upper i) (source-known (e .source) .1 i)
 
 pub read-accepted : (e : Estimate) (t : List ℕ) → LawfulEstimate e → estimateRefusal (estimateBytes e ++ t) 0 ≡ 0
 unfolding estimateBytes estimateRefusal
 read-accepted e t h =
-    let f = flag-bits (e .lower .present) (e .upper .present) in
-    let a = bit-small (e .lower .present) in
-    let b = bit-small (e .upper .present) in
+    let f = flag-bits (e .«has_lower») (e .«has_upper») in
+    let a = bit-small (e .«has_lower») in
+    let b = bit-small (e .«has_upper») in
     let source : ask (leb (sourceNumber (e .source)) 4) 6 ≡ 0 = ap (λ (b : Bool). ask b 6) (le-leb (sourceNumber (e .source)) 4 (source-known (e .source) .0)) in
     let flags : ask (leb (flagsNumber e) 3) 6 ≡ 0 = ap (λ (b : Bool). ask b 6) (le-leb (flagsNumber e) 3 (omega arith)) in
     let value : ask (figureLawful (f64At (estimateBytes e ++ t) 2)) 4 ≡ 0
     = ap (λ (x : Float). ask (figureLawful x) 4) (value-at e t (h .value .held)) ∙ ap (λ (b : Bool). ask b 4) (is-true (figureLawful (e .value)) (h .value .lawful)) in
-    let lower = bound-kept (lowerFlag (flagsNumber e)) (e .lower) (estimateBytes e ++ t) 10 (f .0) (h .lower) (lower-at e t (h .lower)) in
-    let upper = bound-kept (upperFlag (flagsNumber e)) (e .upper) (estimateBytes e ++ t) 18 (f .1) (h .upper) (upper-at e t (h .upper)) in
+    let lower = bound-kept (lowerFlag (flagsNumber e)) (lowerBound e) (estimateBytes e ++ t) 10 (f .0) (h .lower) (lower-at e t (h .lower)) in
+    let upper = bound-kept (upperFlag (flagsNumber e)) (upperBound e) (estimateBytes e ++ t) 18 (f .1) (h .upper) (upper-at e t (h .upper)) in
     λ i. orElse (source i) (orElse (flags i) (orElse (value i) (orElse (lower i) (upper i))))

@@ -14,6 +14,7 @@ use Rattle.float.specs.declared.option.OptionF64.{OptionF64}
 use Rattle.le.specs.Fields.{byteAt, u64At, u64Bytes}
 use Rattle.le.specs.Floats.{f64At, f64Bytes}
 use Rattle.rules.specs.Rules.{ask, orElse}
+use Rattle.estimate.specs.Estimates.{estimateOf, lowerBound, upperBound}
 use Rattle.estimate.specs.declared.Estimate.{Estimate}
 use Rattle.estimate.specs.declared.EstimateSource.{EstimateSource}
 use Rattle.estimate.specs.declared.EstimateSource.the-variants.{Exact, Catalog, Sketch, Derived, Default}
@@ -39,7 +40,7 @@ abbrev pub upperFlag : ℕ → Bool
 upperFlag flags = eqb (flags / 2 % 2) 1
 
 abbrev pub flagsNumber : Estimate → ℕ
-flagsNumber e = bit (e .lower .present) + 2 * bit (e .upper .present)
+flagsNumber e = bit (e .«has_lower») + 2 * bit (e .«has_upper»)
 
 -- ---- read
 
@@ -47,12 +48,12 @@ abbrev pub optionAt : Bool → List ℕ → ℕ → OptionF64
 optionAt present s at = cond present (some (f64At s at)) none
 
 unfoldable pub estimateAt : List ℕ → ℕ → Estimate
-estimateAt s at = record {
-  value = f64At s (at + 2);
-  lower = optionAt (lowerFlag (byteAt s (at + 1))) s (at + 10);
-  upper = optionAt (upperFlag (byteAt s (at + 1))) s (at + 18);
-  source = sourceOf (byteAt s at);
-}
+estimateAt s at =
+    estimateOf
+    (f64At s (at + 2))
+    (optionAt (lowerFlag (byteAt s (at + 1))) s (at + 10))
+    (optionAt (upperFlag (byteAt s (at + 1))) s (at + 18))
+    (sourceOf (byteAt s at))
 
 -- ---- the rules, in byte order
 
@@ -78,7 +79,7 @@ optionBits x = cond (x .present) (toBits binary64 (x .number)) 0
 
 unfoldable pub estimateBytes : Estimate → List ℕ
 estimateBytes e =
-    (sourceNumber (e .source) ∷ []) ++ ((flagsNumber e ∷ []) ++ (f64Bytes (e .value) ++ (u64Bytes (optionBits (e .lower)) ++ u64Bytes (optionBits (e .upper)))))
+    (sourceNumber (e .source) ∷ []) ++ ((flagsNumber e ∷ []) ++ (f64Bytes (e .value) ++ (u64Bytes (optionBits (lowerBound e)) ++ u64Bytes (optionBits (upperBound e)))))
 
 -- ---- what a sheet may hold
 
@@ -91,5 +92,5 @@ LawfulBound x = ((x .present ≡ true) × LawfulFigure (x .number)) ⊎ (x ≡ n
 
 pub record LawfulEstimate (e : Estimate) : Type 0 where
   pub value : LawfulFigure (e .value)
-  pub lower : LawfulBound (e .lower)
-  pub upper : LawfulBound (e .upper)
+  pub lower : LawfulBound (lowerBound e)
+  pub upper : LawfulBound (upperBound e)

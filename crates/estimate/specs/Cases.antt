@@ -8,7 +8,7 @@ use lib.Ieee.{fin, ofBits, toBits, lt, le}
 use Rattle.float.specs.Order.{f64Zero, f64One}
 use Rattle.float.specs.Option.{some, none}
 use Rattle.le.specs.Fields.{fieldAt, fieldBytes}
-use Rattle.estimate.specs.Estimates.{clampToBounds, derived}
+use Rattle.estimate.specs.Estimates.{estimateOf, clampToBounds, derived}
 use Rattle.estimate.specs.Bytes.{estimateAt, estimateRefusal, estimateBytes}
 use Rattle.estimate.specs.declared.EstimateSource.the-variants.{Catalog}
 
@@ -30,7 +30,7 @@ certain-kept : estimateRefusal certain 0 ≡ 0
 unfolding estimateRefusal fieldAt ofBits le
 certain-kept = refl
 
-hundred-read : estimateAt hundred 0 ≡ record { value = fin false 25 (pos 2); lower = none; upper = none; source = Catalog }
+hundred-read : estimateAt hundred 0 ≡ estimateOf (fin false 25 (pos 2)) none none Catalog
 unfolding estimateAt fieldAt ofBits
 hundred-read = refl
 

@@ -6,6 +6,7 @@ ghost use Rattle.le.specs.Fields.{onto};
 ghost use Rattle.estimate.specs.Bytes.{sourceNumber, sourceOf, lowerFlag, upperFlag, flagsNumber, optionAt, estimateAt, figureLawful, boundRefusal, estimateRefusal, optionBits, estimateBytes};
 use crate::Estimate;
 use crate::EstimateSource;
+use crate::estimate_of;
 use float::integers::one_if;
 use float::option::OptionF64;
 use float::option::none;
@@ -60,7 +61,7 @@ fn upper_flag(flags: u8) -> bool
 fn flags_number(e: Estimate) -> u8
     ensures { λ r. ⌜ r ≡ flagsNumber e ⌝ }
 {
-    one_if(e.lower.present) + 2 * one_if(e.upper.present)
+    one_if(e.has_lower) + 2 * one_if(e.has_upper)
 }
 
 fn option_at(present: bool, s: &[u8], at: usize) -> OptionF64
@@ -77,12 +78,12 @@ pub fn estimate_at(s: &[u8], at: usize) -> Estimate
     let flags = byte_at(s, at + 1);
     let lower = lower_flag(flags);
     let upper = upper_flag(flags);
-    Estimate {
-        value: f64_at(s, at + 2),
-        lower: option_at(lower, s, at + 10),
-        upper: option_at(upper, s, at + 18),
-        source: source_of(byte_at(s, at)),
-    }
+    estimate_of(
+        f64_at(s, at + 2),
+        option_at(lower, s, at + 10),
+        option_at(upper, s, at + 18),
+        source_of(byte_at(s, at)),
+    )
 }
 
 // Whether x is a figure that a sheet may hold.
@@ -138,6 +139,6 @@ pub fn put_estimate(out: &mut [u8], e: Estimate)
     put_byte(out, source_number(source));
     put_byte(&mut out[1..], flags_number(e));
     put_f64(&mut out[2..], e.value);
-    put_u64(&mut out[10..], option_bits(e.lower));
-    put_u64(&mut out[18..], option_bits(e.upper));
+    put_u64(&mut out[10..], option_bits(Estimate::lower_bound(e)));
+    put_u64(&mut out[18..], option_bits(Estimate::upper_bound(e)));
 }

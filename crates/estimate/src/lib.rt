@@ -1,6 +1,7 @@
-// The source's Estimate: a value, optional bounds and where it comes from.
+// The source's Estimate: a value, optional bounds and where it comes from. A bound is a flag and a
+// number, which is +0 where there is none.
 ghost use mathlib.Core.Path.{_≡_};
-ghost use Rattle.estimate.specs.Estimates.{raised, lowered, clampToBounds, exact, derived, default, maxByValue, minByValue};
+ghost use Rattle.estimate.specs.Estimates.{estimateOf, lowerBound, upperBound, raised, lowered, clampToBounds, exact, derived, default, maxByValue, minByValue};
 use float::option::OptionF64;
 use float::option::none;
 use float::option::some;
@@ -19,9 +20,30 @@ pub enum EstimateSource {
 
 pub struct Estimate {
     pub value: f64,
-    pub lower: OptionF64,
-    pub upper: OptionF64,
+    pub lower: f64,
+    pub upper: f64,
+    pub has_lower: bool,
+    pub has_upper: bool,
     pub source: EstimateSource,
+}
+
+// From bounds that are options.
+pub fn estimate_of(
+    value: f64,
+    lower: OptionF64,
+    upper: OptionF64,
+    source: EstimateSource,
+) -> Estimate
+    ensures { λ r. ⌜ r ≡ estimateOf value lower upper source ⌝ }
+{
+    Estimate {
+        value,
+        lower: lower.number,
+        upper: upper.number,
+        has_lower: lower.present,
+        has_upper: upper.present,
+        source,
+    }
 }
 
 // value, at least the lower bound where there is one.
@@ -56,33 +78,41 @@ impl Estimate {
     pub fn exact(value: f64) -> Estimate
         ensures { λ r. ⌜ r ≡ exact value ⌝ }
     {
-        Estimate {
-            value,
-            lower: some(value),
-            upper: some(value),
-            source: EstimateSource::Exact,
-        }
+        estimate_of(value, some(value), some(value), EstimateSource::Exact)
     }
 
     pub fn derived(value: f64, lower: OptionF64, upper: OptionF64) -> Estimate
         ensures { λ r. ⌜ r ≡ derived value lower upper ⌝ }
     {
-        Estimate {
-            value: clamp_to_bounds(value, lower, upper),
+        estimate_of(
+            clamp_to_bounds(value, lower, upper),
             lower,
             upper,
-            source: EstimateSource::Derived,
-        }
+            EstimateSource::Derived,
+        )
     }
 
     pub fn default(value: f64) -> Estimate
         ensures { λ r. ⌜ r ≡ default value ⌝ }
     {
-        Estimate {
-            value,
-            lower: some(0.0),
-            upper: none(),
-            source: EstimateSource::Default,
+        estimate_of(value, some(0.0), none(), EstimateSource::Default)
+    }
+
+    pub fn lower_bound(self) -> OptionF64
+        ensures { λ r. ⌜ r ≡ lowerBound self ⌝ }
+    {
+        OptionF64 {
+            present: self.has_lower,
+            number: self.lower,
+        }
+    }
+
+    pub fn upper_bound(self) -> OptionF64
+        ensures { λ r. ⌜ r ≡ upperBound self ⌝ }
+    {
+        OptionF64 {
+            present: self.has_upper,
+            number: self.upper,
         }
     }
 

@@ -1,38 +1,45 @@
 // The bytes of a split's answer.
 ghost use mathlib.Core.Path.{_≡_};
-ghost use Prim.Native.Nat.{_+_, _*_};
-ghost use lib.Dec.{leb};
+ghost use Prim.Native.Nat.{_*_, _≤_};
+ghost use lib.ListN.{length};
+ghost use Rattle.le.specs.Fields.{onto};
 ghost use Rattle.sheet.specs.Sheet.{sheetOf};
+ghost use Rattle.number_bytes.specs.Numbers.{numbersBytes};
+ghost use Rattle.split.specs.Conjuncts.{conjuncts};
 ghost use Rattle.answers.specs.Answers.{bytes, answered, leaves};
 ghost use Rattle.expression_answer.specs.Split.{splitBytes};
 use answers::Answer;
 use le::writes::put_u16;
+use number_bytes::put_number;
 use sheet::Sections;
-use split::count::conjunct_count;
-use split::write::put_conjuncts;
+use split::put_conjuncts;
 
-// Whether n conjuncts fit behind their count.
-fn fits(n: u64, room: usize) -> bool
-    ensures { λ r. ⌜ r ≡ leb (2 + 2 * n) room ⌝ }
+// Numbers one behind the other, and how many bytes they take.
+fn put_numbers(numbers: &[u16], out: &mut [u8]) -> usize
+    requires { ⌜ 2 * length (now numbers) ≤ length (now out) ⌝ }
+    ensures { λ r. ⌜ r ≡ 2 * length (now (numbers .entry)) ⌝ }
+    ensures { λ _. ⌜ now (out .exit) ≡ onto (numbersBytes (now (numbers .entry))) (now (out .entry)) ⌝ }
 {
-    if room < 2 {
-        return false;
+    let mut at: usize = 0;
+    let mut i: usize = 0;
+    while i < numbers.len() {
+        at += put_number(&mut out[at..], numbers[i]);
+        i += 1;
     }
-    if n <= (room - 2) as u64 / 2 {
-        return true;
-    }
-    false
+    at
 }
 
 // The answer's bytes, where the output has room for them.
 pub fn write_conjuncts(s: &[u8], q: Sections, e: u16, out: &mut [u8]) -> Answer
+    requires { ⌜ length (conjuncts (sheetOf (now s) q) e) ≤ 512 ⌝ }
     ensures { λ r. ⌜ r ≡ answered (bytes (splitBytes (sheetOf (now (s .entry)) q) e)) (now (out .entry)) ⌝ }
     ensures { λ _. ⌜ now (out .exit) ≡ leaves (bytes (splitBytes (sheetOf (now (s .entry)) q) e)) (now (out .entry)) ⌝ }
 {
-    let n = conjunct_count(s, q, e);
-    if fits(n, out.len()) {
-        put_u16(out, (n % 65536) as u16);
-        return Answer::Written(2 + put_conjuncts(s, q, e, &mut out[2..]));
+    let mut numbers = [0u16; 512];
+    let n = put_conjuncts(s, q, e, &mut numbers);
+    if 2 + 2 * n <= out.len() {
+        put_u16(out, n as u16);
+        return Answer::Written(2 + put_numbers(&numbers[..n], &mut out[2..]));
     }
     Answer::Refused(12)
 }

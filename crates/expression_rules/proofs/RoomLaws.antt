@@ -13,8 +13,7 @@ use Rattle.rules.proofs.RuleLaws.{ask-kept, both-first, both-second, else-first
 use Rattle.record_rules.specs.Fields.{whole}
 use Rattle.record_rules.proofs.RoomLaws.{whole-room}
 use Rattle.expression_rules.specs.Expressions.{lastOp, firstFieldRefusal, expressionRefusal}
-use Rattle.expression_rules.specs.Operands.{expressionPlace, runsBefore, operandRefusal, conjunctRefusal}
-use Rattle.expression_rules.proofs.RunLaws.{RunsFollow}
+use Rattle.expression_rules.specs.Operands.{expressionPlace, runsBefore, RunsFollow, operandRefusal, conjunctRefusal}
 
 -- ---- a record is there whole
 

@@ -5,10 +5,10 @@ use mathlib.Core.Bool.{Bool, true, false, cond, _&&_, false≢true}
 use mathlib.Core.List.{List}
 use native.Mathlib.Omega.{arith}
 use native.Mathlib.Nat.{add-zero, zero-add}
-use lib.Dec.{ltb}
-use borrow.Author.Tests.{ltb-true, ltb-false, le-ltb}
+use lib.Dec.{ltb, leb}
+use borrow.Author.Tests.{ltb-true, ltb-false, le-ltb, le-leb}
 use Rattle.le.specs.Fields.{u16At}
-use Rattle.expression_rules.specs.Operands.{expressionPlace, isNary, runLength, runsBefore, runHolds, firstHolding, naryFrom, naryOf}
+use Rattle.expression_rules.specs.Operands.{expressionPlace, isNary, runLength, runsBefore, runHolds, firstHolding, naryFrom, naryOf, RunsFollow}
 
 -- ---- the loop that stands at the f-th of n, where the rest gives t, as all of them do
 
@@ -77,18 +77,36 @@ pub owner-within : (s : List ℕ) (x i : ℕ) → naryOf s x i ≤ u16At s x
 unfolding naryOf
 owner-within s x i = nary-within s x i 0 (omega arith)
 
--- a run that does not end behind i does not end behind i + 1
-later-not : (t : Bool) (i n : ℕ) → (t && ltb i n) ≡ false → (t && ltb (i + 1) n) ≡ false
-later-not false i n e = refl
-later-not true i n e =
-    let l : n ≤ i = ltb-false i n e in
-    le-ltb (i + 1) n (omega arith)
+-- ---- by whether an expression is n-ary, with a and b its fields and r the operands before it, which are at most i
 
--- Looked for from the owner of operand i on, operand i + 1 finds the owner that it finds from the first expression on.
-onward : (s : List ℕ) (x i e n : ℕ) → firstHolding s x (i + 1) (firstHolding s x i e n) (e + n - firstHolding s x i e n) ≡ firstHolding s x (i + 1) e n
+held : (t : Bool) (i a b r : ℕ) → (t ≡ true → a ≡ r) → r ≤ i → (t && (leb a i && ltb i (a + b))) ≡ true → (t ≡ true) × ((a ≤ i) × (i < a + b))
+held false i a b r k l h = absurd (false≢true h)
+held true i a b r k l h =
+    let q : a ≡ r = k refl in
+    let m : leb a i ≡ true = le-leb a i (omega arith) in
+    (refl, (omega arith, ltb-true i (a + b) (rw m at h)))
+
+passed : (t : Bool) (i a b r : ℕ) → (t ≡ true → a ≡ r) → r ≤ i → (t && (leb a i && ltb i (a + b))) ≡ false → r + cond t b 0 ≤ i
+passed false i a b r k l h = omega arith
+passed true i a b r k l h =
+    let q : a ≡ r = k refl in
+    let m : leb a i ≡ true = le-leb a i (omega arith) in
+    let n : a + b ≤ i = ltb-false i (a + b) (rw m at h) in
+    omega arith
+
+-- a run that does not hold operand i does not hold the next one
+later-not : (t : Bool) (i a b r : ℕ) → (t ≡ true → a ≡ r) → r ≤ i → (t && (leb a i && ltb i (a + b))) ≡ false → (t && (leb a (i + 1) && ltb (i + 1) (a + b))) ≡ false
+later-not false i a b r k l h = refl
+later-not true i a b r k l h =
+    let q : a ≡ r = k refl in
+    let p : r + b ≤ i = passed true i a b r k l h in
+    rw (le-leb a (i + 1) (omega arith), le-ltb (i + 1) (a + b) (omega arith)) refl
+
+-- Looked for from the owner of operand i on, operand i + 1 finds the owner that it finds from the first expression on, where runs follow each other.
+onward : (s : List ℕ) (x i e n : ℕ) → RunsFollow s x → e + n ≤ u16At s x → runsBefore s x e ≤ i → firstHolding s x (i + 1) (firstHolding s x i e n) (e + n - firstHolding s x i e n) ≡ firstHolding s x (i + 1) e n
 unfolding firstHolding
-onward s x i e zero = holding-end s x (i + 1) e (e + 0 - e) (omega arith)
-onward s x i e (suc n) = by-flag (runHolds s x i e) refl (onward s x i (e + 1) n)
+onward s x i e zero f m l = holding-end s x (i + 1) e (e + 0 - e) (omega arith)
+onward s x i e (suc n) f m l = by-flag (runHolds s x i e) refl (λ (r : runsBefore s x (e + 1) ≤ i). onward s x i (e + 1) n f (omega arith) r)
   where
     o : ℕ
     o = firstHolding s x i (e + 1) n
@@ -96,28 +114,28 @@ onward s x i e (suc n) = by-flag (runHolds s x i e) refl (onward s x i (e + 1) n
     all : ℕ
     all = firstHolding s x (i + 1) (e + 1) n
 
-    by-flag : (t : Bool) → runHolds s x i e ≡ t → firstHolding s x (i + 1) o (e + 1 + n - o) ≡ all → firstHolding s x (i + 1) (cond t e o) (e + suc n - cond t e o) ≡ cond (runHolds s x (i + 1) e) e all
+    within : e < u16At s x
+    within = omega arith
+
+    by-flag : (t : Bool) → runHolds s x i e ≡ t → (runsBefore s x (e + 1) ≤ i → firstHolding s x (i + 1) o (e + 1 + n - o) ≡ all) → firstHolding s x (i + 1) (cond t e o) (e + suc n - cond t e o) ≡ cond (runHolds s x (i + 1) e) e all
     by-flag true h r =
         let k : e + suc n - e ≡ suc n = omega arith in
         ap (firstHolding s x (i + 1) e) k
     by-flag false h r =
         let k : e + suc n - o ≡ e + 1 + n - o = omega arith in
-        let no : runHolds s x (i + 1) e ≡ false = later-not (isNary s (expressionPlace x e)) i _ h in
-        rw (k, no) r
+        let p : runsBefore s x e + runLength s (expressionPlace x e) ≤ i = passed _ i _ _ (runsBefore s x e) (f e within) l h in
+        let no : runHolds s x (i + 1) e ≡ false = later-not (isNary s (expressionPlace x e)) i _ _ (runsBefore s x e) (f e within) l h in
+        rw (k, no) (r (subst (λ (k : ℕ). k ≤ i) (sym (runs-step s x e)) p))
 
-pub owner-next : (s : List ℕ) (x i : ℕ) → naryFrom s x (i + 1) (naryOf s x i) ≡ naryOf s x (i + 1)
-unfolding naryOf
-owner-next s x i =
+pub owner-next : (s : List ℕ) (x i : ℕ) → RunsFollow s x → naryFrom s x (i + 1) (naryOf s x i) ≡ naryOf s x (i + 1)
+unfolding naryOf runsBefore
+owner-next s x i f =
     let n : ℕ = u16At s x in
     let o : ℕ = firstHolding s x i 0 n in
     let h : n - 0 ≡ n = omega arith in
-    rw h (subst (λ (k : ℕ). firstHolding s x (i + 1) o (k - o) ≡ firstHolding s x (i + 1) 0 n) (zero-add n) (onward s x i 0 n))
+    rw h (subst (λ (k : ℕ). firstHolding s x (i + 1) o (k - o) ≡ firstHolding s x (i + 1) 0 n) (zero-add n) (onward s x i 0 n f (omega arith) (omega arith)))
 
 -- ---- the owner's run holds the operand
-
--- every n-ary expression starts its run where the runs before it end
-abbrev pub RunsFollow : List ℕ → ℕ → Type 0
-RunsFollow s x = (e : ℕ) → e < u16At s x → isNary s (expressionPlace x e) ≡ true → u16At s (expressionPlace x e + 2) ≡ runsBefore s x e
 
 -- expression o is one of the sheet's and n-ary, and operand i is one of its b operands from operand a on
 abbrev pub Holds : List ℕ → ℕ → ℕ → ℕ → Type 0
@@ -125,20 +143,6 @@ Holds s x i o =
     (o < u16At s x)
     × ((isNary s (expressionPlace x o) ≡ true)
     × ((u16At s (expressionPlace x o + 2) ≤ i) × (i < u16At s (expressionPlace x o + 2) + u16At s (expressionPlace x o + 4))))
-
--- by whether an expression is n-ary, with a and b its fields and r the operands before it
-held : (t : Bool) (i a b r : ℕ) → (t ≡ true → a ≡ r) → r ≤ i → (t && ltb i (a + b)) ≡ true → (t ≡ true) × ((a ≤ i) × (i < a + b))
-held false i a b r k l h = absurd (false≢true h)
-held true i a b r k l h =
-    let q : a ≡ r = k refl in
-    (refl, (omega arith, ltb-true i (a + b) h))
-
-passed : (t : Bool) (i a b r : ℕ) → (t ≡ true → a ≡ r) → r ≤ i → (t && ltb i (a + b)) ≡ false → r + cond t b 0 ≤ i
-passed false i a b r k l h = omega arith
-passed true i a b r k l h =
-    let q : a ≡ r = k refl in
-    let m : a + b ≤ i = ltb-false i (a + b) h in
-    omega arith
 
 holds-from : (s : List ℕ) (x i e n : ℕ) → RunsFollow s x → e + n ≤ u16At s x → runsBefore s x e ≤ i → i < runsBefore s x (e + n) → Holds s x i (firstHolding s x i e n)
 unfolding firstHolding

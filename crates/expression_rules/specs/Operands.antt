@@ -1,8 +1,9 @@
 -- The rules of operands and conjuncts. `expressions` is the place of the expressions' count. Definitions only.
-use Prim.Native.Nat.{ℕ, zero, suc, _+_, _-_, _*_}
-use mathlib.Core.Bool.{Bool, cond, not, _&&_}
+use Prim.Native.Nat.{ℕ, zero, suc, _+_, _-_, _*_, _<_}
+use mathlib.Core.Path.{_≡_}
+use mathlib.Core.Bool.{Bool, true, cond, not, _&&_}
 use mathlib.Core.List.{List}
-use lib.Dec.{ltb, eqb}
+use lib.Dec.{ltb, leb, eqb}
 use Rattle.le.specs.Fields.{byteAt, u16At}
 use Rattle.rules.specs.Rules.{ask, orElse, firstRefusal}
 use Rattle.record_rules.specs.Fields.{whole}
@@ -25,13 +26,13 @@ unfoldable pub runsBefore : List ℕ → ℕ → ℕ → ℕ
 runsBefore s expressions zero = 0
 runsBefore s expressions (suc n) = runsBefore s expressions n + runLength s (expressionPlace expressions n)
 
--- expression e is n-ary, and its run ends behind operand i
+-- expression e is n-ary, and operand i stands in its run
 abbrev pub runHolds : List ℕ → ℕ → ℕ → ℕ → Bool
 runHolds s expressions i e =
     let at = expressionPlace expressions e in
-    isNary s at && ltb i (u16At s (at + 2) + u16At s (at + 4))
+    isNary s at && (leb (u16At s (at + 2)) i && ltb i (u16At s (at + 2) + u16At s (at + 4)))
 
--- among n expressions, e and those behind it, the first whose run ends behind operand i
+-- among n expressions, e and those behind it, the first whose run holds operand i
 unfoldable pub firstHolding : List ℕ → ℕ → ℕ → ℕ → ℕ → ℕ
 firstHolding s expressions i e zero = e
 firstHolding s expressions i e (suc n) = cond (runHolds s expressions i e) e (firstHolding s expressions i (e + 1) n)
@@ -40,10 +41,14 @@ firstHolding s expressions i e (suc n) = cond (runHolds s expressions i e) e (fi
 abbrev pub naryFrom : List ℕ → ℕ → ℕ → ℕ → ℕ
 naryFrom s expressions i e = firstHolding s expressions i e (u16At s expressions - e)
 
--- The n-ary expression to which operand i belongs. Runs follow each other, so it is the first whose run ends behind i.
+-- the n-ary expression to which operand i belongs
 unfoldable pub naryOf : List ℕ → ℕ → ℕ → ℕ
 unfolding firstHolding
 naryOf s expressions i = naryFrom s expressions i 0
+
+-- every n-ary expression starts its run where the runs before it end
+abbrev pub RunsFollow : List ℕ → ℕ → Type 0
+RunsFollow s expressions = (e : ℕ) → e < u16At s expressions → isNary s (expressionPlace expressions e) ≡ true → u16At s (expressionPlace expressions e + 2) ≡ runsBefore s expressions e
 
 -- ---- the rules
 

@@ -49,14 +49,15 @@ pub fn runs_before(s: &[u8], expressions: usize, n: usize) -> usize
     sum
 }
 
-// Whether expression e is n-ary and its run ends behind operand i.
+// Whether expression e is n-ary and operand i stands in its run.
 fn run_holds(s: &[u8], expressions: usize, i: usize, e: usize) -> bool
     requires { ⌜ (expressions < 2 ^ 40) × (e < 2 ^ 50) ⌝ }
     ensures { λ r. ⌜ r ≡ runHolds (now (s .entry)) expressions i e ⌝ }
 {
     let at = expression_place(expressions, e);
-    let end = u16_at(s, at + 2) as usize + u16_at(s, at + 4) as usize;
-    both(is_nary(s, at), i < end)
+    let first = u16_at(s, at + 2) as usize;
+    let end = first + u16_at(s, at + 4) as usize;
+    both(is_nary(s, at), both(first <= i, i < end))
 }
 
 // The n-ary expression in whose run operand i stands, looked for from the e-th on; the number of

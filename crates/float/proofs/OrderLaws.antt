@@ -3,13 +3,12 @@ use mathlib.Core.Path.{_≡_, refl, sym, ap, _∙_, subst}
 use mathlib.Core.Logic.{inl, inr}
 use mathlib.Core.Bool.{Bool, true, false, not, _||_, cond, true≢false}
 use Prim.Native.Nat.{ℕ, zero, suc, _+_, _*_, _/_, _%_, _^_, _≤_, _<_}
-use native.Mathlib.Nat.{le-of-eq, le-of-lt, lt-of-lt-of-le, lt-of-le-of-lt, lt-of-not-le, not-le-of-lt, le-of-suc-le-suc, eq-or-lt-of-le, zero-lt-suc, mul-one, mul-assoc, mul-comm, mul-le-mul, mul-le-mul-right, mul-lt-mul-of-pos-right, le-of-mul-le-mul-right, le-add-right, pow-suc, mod-lt}
+use native.Mathlib.Nat.{le-of-eq, lt-of-lt-of-le, lt-of-not-le, not-le-of-lt, le-of-suc-le-suc, eq-or-lt-of-le, zero-lt-suc, mul-one, mul-assoc, mul-comm, mul-le-mul, mul-lt-mul-of-pos-right, le-of-mul-le-mul-right, le-add-right, pow-suc, mod-lt}
 use native.Mathlib.Omega.{arith}
 use lib.Dec.{T, leb, eqb, nleb→lt}
 use lib.Pow.{pow-pos, pow-mono}
 use lib.Ieee.{Float, nan, inf, binary64, le, lt, eq, odd, ofFields, ofBits}
 use lib.Ieee.Exact.{HasValue, odd-sign}
-use lib.Ieee.Order.{le-of-values}
 use lib.Ieee.Positive.{positive, values-of-le}
 use Rattle.float.specs.Order.{f64Zero}
 use Rattle.float.proofs.BitLaws.{ofBits-is, normal, subnormal}
@@ -67,15 +66,7 @@ bitUnits-lt b c h = elim (eq-or-lt-of-le (fields b c h)) [
     digits : (b c : ℕ) → b < c → b / 0x10_0000_0000_0000 ≡ c / 0x10_0000_0000_0000 → b % 0x10_0000_0000_0000 < c % 0x10_0000_0000_0000
     digits b c h e = omega arith
 
-pub bitUnits-le : (b c : ℕ) → b ≤ c → bitUnits b ≤ bitUnits c
-bitUnits-le b c h = elim (eq-or-lt-of-le h) [ inl e ↦ le-of-eq (ap bitUnits e) | inr l ↦ le-of-lt (bitUnits-lt b c l) ]
-
 -- ---- the order of the floats
-pub bits-le : (b c : ℕ) → b ≤ c → c < 0x7ff0_0000_0000_0000 → T (le (ofBits binary64 b) (ofBits binary64 c))
-bits-le b c h k =
-    le-of-values (ofBits binary64 b) (ofBits binary64 c) (bitUnits b) (2 ^ 1074) (bitUnits c) (2 ^ 1074) (pow-pos 1074) (pow-pos 1074)
-    (bits-value b (lt-of-le-of-lt h k)) (bits-value c k) (mul-le-mul-right (2 ^ 1074) (bitUnits-le b c h))
-
 pub le-bits : (b c : ℕ) → b < 0x7ff0_0000_0000_0000 → c < 0x7ff0_0000_0000_0000 → T (positive (ofBits binary64 b)) → T (positive (ofBits binary64 c)) → T (le (ofBits binary64 b) (ofBits binary64 c)) → b ≤ c
 le-bits b c h k p q l =
     le-of-suc-le-suc (lt-of-not-le (λ (g : suc c ≤ b). not-le-of-lt (bitUnits-lt c b g)

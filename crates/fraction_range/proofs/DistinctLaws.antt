@@ -16,7 +16,7 @@ use Rattle.estimate.specs.Bytes.{LawfulFigure}
 use Rattle.records.specs.declared.columns.ColumnProfile.{ColumnProfile}
 use Rattle.units.specs.Sizes.{UpTo}
 use Rattle.units.proofs.ScalarLaws.{holds}
-use Rattle.units.proofs.SizeLaws.{le-up-to, up-to-le, unit-up-to, zero-up-to, one-up-to, max-up-to, mul-up-to}
+use Rattle.units.proofs.SizeLaws.{up-to-le, unit-up-to, zero-up-to, one-up-to, max-up-to, mul-up-to}
 use Rattle.units.proofs.FigureLaws.{figure-up-to}
 use Rattle.units.proofs.UnitOperations.{le-own}
 use Rattle.interval.specs.Fraction.{scalarIntervalFraction}
@@ -144,9 +144,3 @@ intersection-within left right x y bl br fl fr =
     go : (b : Bool) (d : DistinctIntersection) → DistinctWithin x y (d .distinct) → DistinctWithin x y (cond b (overlapping f64Zero) d .distinct)
     go true d h = zero-within x y fl fr
     go false d h = h
-
-pub intersection-up-to : (left right : ColumnProfile) (leftDistinct rightDistinct : Float) → LawfulBounds left → LawfulBounds right → LawfulFigure leftDistinct → LawfulFigure rightDistinct
-    → UpTo 64 (estimatedDistinctIntersection left right leftDistinct rightDistinct .distinct)
-intersection-up-to left right x y bl br fl fr =
-    let w = intersection-within left right x y bl br fl fr in
-    le-up-to 64 (estimatedDistinctIntersection left right x y .distinct) (w .held) (w .low) (w .top)

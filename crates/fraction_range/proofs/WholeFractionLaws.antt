@@ -1,30 +1,33 @@
 -- A fraction of whole numbers within 64 bits lies from 0 to 1 and is not -0: for booleans, whole numbers and days whatever the overlap is, and for decimals where the overlap is the one that `estimated_distinct_intersection` takes.
 -- There the overlap is no wider than either range, so where a range is reversed the overlap is too, and the quotient is above 0. Nothing is said here of Float64. Assumes nothing.
+use Prim.{Unit}
 use Prim.Native.Nat.{ℕ, zero, suc, _+_, _-_, _^_, _≤_, _<_}
 use mathlib.Core.Path.{_≡_, refl, sym, ap, _∙_, subst}
-use mathlib.Core.Bool.{Bool, true, false, cond, not, _&&_, true≢false, false≢true}
+use mathlib.Core.Bool.{Bool, true, false, cond, not, true≢false, false≢true}
 use native.Mathlib.Omega.{arith}
 use native.Mathlib.Nat.{le-refl}
-use borrow.Author.Tests.{eq-eqb, eqb-true, ltb-true, ltb-false}
-use lib.Dec.{T, ltb, eqb, ltb→lt, nltb→le, eqb→eq, lit≤}
+use borrow.Author.Tests.{eq-eqb, ltb-true, ltb-false}
+use lib.Dec.{T, ltb, ltb→lt, nltb→le, lit≤}
 use lib.IntN.{ℤ, pos, negsuc, natAbs, subℕ, _+ℤ_, _-ℤ_, +ℤ-idr}
 use lib.Signed.{mag, ltZ, nonNeg}
 use lib.Ieee.{Float, nan, inf, fin, Format, binary64, neg, ofInt, div, lt}
-use lib.Ieee.Fits.{and-l, and-r}
 use Rattle.float.specs.Integers.{offset}
 use Rattle.float.specs.Order.{f64Zero, f64One, clampUnit, nonneg, Unit01}
 use Rattle.float.proofs.IntegerLaws.{difference, ofInt-neg}
 use Rattle.float.proofs.UnitLaws.{one-unit}
-use Rattle.scalar.specs.Types.{scalarType, sameType}
-use Rattle.scalar.specs.Order.{integerOrder, orderThen, scalarIntegers, scalarOrder, isLess, isGreater}
-use Rattle.scalar.specs.declared.ScalarType.{ScalarType}
+use Rattle.scalar.specs.Types.{asDecimal128}
+use Rattle.scalar.specs.Order.{integerOrder, integerOptionOrder, scalarOrder, isLess, isGreater}
 use Rattle.scalar.specs.declared.Scalar.{Scalar}
-use Rattle.scalar.specs.declared.order.ScalarOrdering.{ScalarOrdering}
-use Rattle.scalar.specs.declared.order.ScalarOrdering.the-variants.{Less, Equal, Greater, Unordered}
-use Rattle.interval.specs.Fraction.{isZero, discrete, decimal, isDiscrete, scalarInteger, sameTypes, scalarIntervalFraction}
+use Rattle.scalar.specs.declared.Scalar.the-variants.{Decimal128}
+use Rattle.scalar.specs.declared.order.ScalarOrdering.the-variants.{Less, Equal, Greater}
+use Rattle.scalar.specs.declared.types.IntegerOption.{IntegerOption}
+use Rattle.scalar.specs.declared.types.IntegerOption.the-variants.{NoInteger, Integer}
+use Rattle.scalar.proofs.TypeLaws.{decimal128-or-none}
+use Rattle.scalar.proofs.OrderCases.{decimal-order}
+use Rattle.interval.specs.Fraction.{isZero, discrete, decimal, integerEnds, decimalEnds, endsFraction}
 use Rattle.interval.specs.Intersection.{overlapLower, overlapUpper}
-use Rattle.interval.specs.declared.fraction.IntervalFraction.{IntervalFraction}
 use Rattle.interval.specs.declared.fraction.IntervalFraction.the-variants.{NoFraction, Fraction}
+use Rattle.interval.specs.declared.fraction.ScalarEnds.the-variants.{UnlikeTypes}
 use Rattle.units.proofs.SpreadLaws.{div-spread, spread-clamped}
 use Rattle.units.proofs.ScalarLaws.{count-sized, integer-spread}
 use Rattle.fraction_range.specs.Distinct.{InUnit}
@@ -155,197 +158,148 @@ not-less-offset (pos a) (negsuc b) h k e = omega arith
 not-less-offset (negsuc a) (pos b) h k e = absurd (true≢false e)
 not-less-offset (negsuc a) (negsuc b) h k e = omega (arith, ltb-false b a e)
 
-module _ (a b : ℤ) (r : ScalarOrdering) (h : In64 a) (k : In64 b) where
-  is-less : isLess (orderThen (integerOrder a b) r) ≡ true → offset a ≤ offset b
+module _ (a b : ℤ) (h : In64 a) (k : In64 b) where
+  is-less : isLess (integerOrder a b) ≡ true → offset a ≤ offset b
   unfolding integerOrder
-  is-less = go (ltZ a b) (ltZ b a) (less-offset a b h k) (not-less-offset b a k h)
+  is-less = go (ltZ a b) (ltZ b a) (less-offset a b h k)
     where
-      go : (t u : Bool) → (t ≡ true → offset a ≤ offset b) → (u ≡ false → offset a ≤ offset b) → isLess (orderThen (cond t Less (cond u Greater Equal)) r) ≡ true → offset a ≤ offset b
-      go true u y z e = y refl
-      go false true y z e = absurd (false≢true e)
-      go false false y z e = z refl
+      go : (t u : Bool) → (t ≡ true → offset a ≤ offset b) → isLess (cond t Less (cond u Greater Equal)) ≡ true → offset a ≤ offset b
+      go true u y e = y refl
+      go false true y e = absurd (false≢true e)
+      go false false y e = absurd (false≢true e)
 
-  is-not-less : isLess (orderThen (integerOrder a b) r) ≡ false → offset b ≤ offset a
+  is-not-less : isLess (integerOrder a b) ≡ false → offset b ≤ offset a
   unfolding integerOrder
   is-not-less = go (ltZ a b) (ltZ b a) (not-less-offset a b h k)
     where
-      go : (t u : Bool) → (t ≡ false → offset b ≤ offset a) → isLess (orderThen (cond t Less (cond u Greater Equal)) r) ≡ false → offset b ≤ offset a
+      go : (t u : Bool) → (t ≡ false → offset b ≤ offset a) → isLess (cond t Less (cond u Greater Equal)) ≡ false → offset b ≤ offset a
       go true u z e = absurd (true≢false e)
       go false u z e = z refl
 
-  is-greater : isGreater (orderThen (integerOrder a b) r) ≡ true → offset b ≤ offset a
+  is-greater : isGreater (integerOrder a b) ≡ true → offset b ≤ offset a
   unfolding integerOrder
   is-greater = go (ltZ a b) (ltZ b a) (not-less-offset a b h k)
     where
-      go : (t u : Bool) → (t ≡ false → offset b ≤ offset a) → isGreater (orderThen (cond t Less (cond u Greater Equal)) r) ≡ true → offset b ≤ offset a
+      go : (t u : Bool) → (t ≡ false → offset b ≤ offset a) → isGreater (cond t Less (cond u Greater Equal)) ≡ true → offset b ≤ offset a
       go true u z e = absurd (false≢true e)
       go false u z e = z refl
 
-  is-not-greater : isGreater (orderThen (integerOrder a b) r) ≡ false → offset a ≤ offset b
+  is-not-greater : isGreater (integerOrder a b) ≡ false → offset a ≤ offset b
   unfolding integerOrder
   is-not-greater = go (ltZ a b) (ltZ b a) (less-offset a b h k) (not-less-offset b a k h)
     where
-      go : (t u : Bool) → (t ≡ true → offset a ≤ offset b) → (u ≡ false → offset a ≤ offset b) → isGreater (orderThen (cond t Less (cond u Greater Equal)) r) ≡ false → offset a ≤ offset b
+      go : (t u : Bool) → (t ≡ true → offset a ≤ offset b) → (u ≡ false → offset a ≤ offset b) → isGreater (cond t Less (cond u Greater Equal)) ≡ false → offset a ≤ offset b
       go true u y z e = y refl
       go false true y z e = absurd (true≢false e)
       go false false y z e = z refl
 
--- ---- two decimals of one type
+-- ---- the numbers of four ends, where all are of one type
 
-same-equal : (a b : ScalarType) → T (sameType a b) → a ≡ b
-same-equal a b h =
-    let t = eqb (a .tag) (b .tag) in
-    let p = eqb (a .precision) (b .precision) in
-    let s = eqb (a .scale) (b .scale) in
-    let tag = eqb→eq (a .tag) (b .tag) (and-l t (p && s) h) in
-    let precision = eqb→eq (a .precision) (b .precision) (and-l p s (and-r t (p && s) h)) in
-    let scale = eqb→eq (a .scale) (b .scale) (and-r p s (and-r t (p && s) h)) in
-    λ i. record { tag = tag i; precision = precision i; scale = scale i }
+-- of the number, if there is one
+abbrev pub Each : (ℤ → Type 0) → IntegerOption → Type 0
+Each P NoInteger = Unit {0}
+Each P (Integer x) = P x
 
-equal-same : (a b : ScalarType) → a ≡ b → sameType a b ≡ true
-equal-same a b e = subst (λ (c : ScalarType). sameType a c ≡ true) e (rw (eq-eqb (a .tag) (a .tag) refl, eq-eqb (a .precision) (a .precision) refl, eq-eqb (a .scale) (a .scale) refl) refl)
+pub integers-unit : (l : ℤ) (u ol ou : IntegerOption) → In64 l → Each In64 u → Each In64 ol → Each In64 ou → InUnit (endsFraction (integerEnds l u ol ou))
+unfolding endsFraction
+integers-unit l NoInteger ol ou hl hu hol hou = tt
+integers-unit l (Integer u) NoInteger ou hl hu hol hou = tt
+integers-unit l (Integer u) (Integer ol) NoInteger hl hu hol hou = tt
+integers-unit l (Integer u) (Integer ol) (Integer ou) hl hu hol hou = discrete-unit l u ol ou hl hu hol hou
 
-abbrev OneType : Scalar → Scalar → Type 0
-OneType a b = scalarType a ≡ scalarType b
+abbrev From : ℤ → ℤ → Type 0
+From a x = In64 x × (offset a ≤ offset x)
 
-abbrev Decimal : Scalar → Type 0
-Decimal x = scalarType x .tag ≡ 5
+abbrev UpTo : ℤ → ℤ → Type 0
+UpTo a x = In64 x × (offset x ≤ offset a)
 
--- their whole numbers decide
-later : Scalar → Scalar → ScalarOrdering
-later a b = orderThen (integerOrder (scalarIntegers a .second) (scalarIntegers b .second)) (integerOrder (scalarIntegers a .third) (scalarIntegers b .third))
+unlike-unit : InUnit (endsFraction UnlikeTypes)
+unfolding endsFraction
+unlike-unit = tt
 
-by-first : (a b : Scalar) → OneType a b → Decimal a → scalarOrder a b ≡ orderThen (integerOrder (scalarInteger a) (scalarInteger b)) (later a b)
-unfolding scalarOrder later
-by-first a b h t = rw (equal-same (scalarType a) (scalarType b) h, t) refl
+decimals-unit : (l u : ℤ) (ol ou : IntegerOption) → In64 l → In64 u → Each (From l) ol → Each (UpTo u) ou → InUnit (endsFraction (decimalEnds l (Integer u) ol ou))
+unfolding endsFraction
+decimals-unit l u NoInteger ou hl hu hol hou = tt
+decimals-unit l u (Integer ol) NoInteger hl hu hol hou = tt
+decimals-unit l u (Integer ol) (Integer ou) hl hu hol hou = decimal-unit l u ol ou hl hu (hol .0) (hou .0) (hol .1) (hou .1)
 
--- an order that there is
-less-same : (a b : Scalar) → isLess (scalarOrder a b) ≡ true → OneType a b
-unfolding scalarOrder
-less-same a b = go (sameType (scalarType a) (scalarType b)) _ (same-equal (scalarType a) (scalarType b))
-  where
-    go : (s : Bool) (o : ScalarOrdering) → (T s → OneType a b) → isLess (cond s o Unordered) ≡ true → OneType a b
-    go true o y e = y tt
-    go false o y e = absurd (false≢true e)
+-- ---- the overlap of decimals lies in either range
 
-greater-same : (a b : Scalar) → isGreater (scalarOrder a b) ≡ true → OneType a b
-unfolding scalarOrder
-greater-same a b = go (sameType (scalarType a) (scalarType b)) _ (same-equal (scalarType a) (scalarType b))
-  where
-    go : (s : Bool) (o : ScalarOrdering) → (T s → OneType a b) → isGreater (cond s o Unordered) ≡ true → OneType a b
-    go true o y e = y tt
-    go false o y e = absurd (false≢true e)
+module _ (p s : ℕ) where
+  -- the number of a decimal of this precision and scale is within 64 bits
+  abbrev pub Decimal64 : Scalar → Type 0
+  Decimal64 x = Each In64 (asDecimal128 p s x)
 
--- ---- the overlap lies in either range
+  own : (P : ℤ → Type 0) (a : ℤ) → P a → Each P (asDecimal128 p s (Decimal128 a p s))
+  own P a h = rw (eq-eqb p p refl, eq-eqb s s refl) h
 
--- a scalar whose first whole number is within 64 bits, as each is that the machine holds
-abbrev pub Whole64 : Scalar → Type 0
-Whole64 x = In64 (scalarInteger x)
+  held : (a : ℤ) → Decimal64 (Decimal128 a p s) → In64 a
+  held a h = rw (eq-eqb p p refl, eq-eqb s s refl) at h
 
-abbrev place : Scalar → ℕ
-place x = offset (scalarInteger x)
+  -- of two scalars the one that the test says
+  tested : (P : ℤ → Type 0) (t : Bool) (x y : Scalar) → (t ≡ true → Each P (asDecimal128 p s x)) → (t ≡ false → Each P (asDecimal128 p s y)) → Each P (asDecimal128 p s (cond t x y))
+  tested P true x y h k = h refl
+  tested P false x y h k = k refl
 
-decimal-too : (a b : Scalar) → OneType a b → Decimal a → Decimal b
-decimal-too a b s t = sym (ap (λ (x : ScalarType). x .tag) s) ∙ t
+  module _ (a : ℤ) (h : In64 a) where
+    abbrev this : Scalar
+    this = Decimal128 a p s
 
-module _ (l r : Scalar) (h : Whole64 l) (k : Whole64 r) where
-  less-place : Decimal l → OneType l r → isLess (scalarOrder l r) ≡ true → place l ≤ place r
-  less-place t s e = is-less (scalarInteger l) (scalarInteger r) (later l r) h k (sym (ap isLess (by-first l r s t)) ∙ e)
+    this-from : Each (From a) (asDecimal128 p s this)
+    this-from = own (From a) a (h, le-refl (offset a))
 
-  not-less-place : Decimal l → OneType l r → isLess (scalarOrder l r) ≡ false → place r ≤ place l
-  not-less-place t s e = is-not-less (scalarInteger l) (scalarInteger r) (later l r) h k (sym (ap isLess (by-first l r s t)) ∙ e)
+    this-up-to : Each (UpTo a) (asDecimal128 p s this)
+    this-up-to = own (UpTo a) a (h, le-refl (offset a))
 
-  greater-place : Decimal l → OneType l r → isGreater (scalarOrder l r) ≡ true → place r ≤ place l
-  greater-place t s e = is-greater (scalarInteger l) (scalarInteger r) (later l r) h k (sym (ap isGreater (by-first l r s t)) ∙ e)
+    lower-left : (r : Scalar) → Decimal64 r → Each (From a) (asDecimal128 p s (overlapLower this r))
+    unfolding overlapLower scalarOrder
+    lower-left =
+        decimal128-or-none p s
+        (λ r o. Decimal64 r → Each (From a) (asDecimal128 p s (cond (isLess (integerOptionOrder a o)) r this)))
+        (λ r k. this-from)
+        (λ b k. let i = held b k in tested (From a) (isLess (integerOrder a b)) (Decimal128 b p s) this (λ e. own (From a) b (i, is-less a b h i e)) (λ e. this-from))
 
-  not-greater-place : Decimal l → OneType l r → isGreater (scalarOrder l r) ≡ false → place l ≤ place r
-  not-greater-place t s e = is-not-greater (scalarInteger l) (scalarInteger r) (later l r) h k (sym (ap isGreater (by-first l r s t)) ∙ e)
+    upper-left : (r : Scalar) → Decimal64 r → Each (UpTo a) (asDecimal128 p s (overlapUpper this r))
+    unfolding overlapUpper scalarOrder
+    upper-left =
+        decimal128-or-none p s
+        (λ r o. Decimal64 r → Each (UpTo a) (asDecimal128 p s (cond (isGreater (integerOptionOrder a o)) r this)))
+        (λ r k. this-up-to)
+        (λ b k. let i = held b k in tested (UpTo a) (isGreater (integerOrder a b)) (Decimal128 b p s) this (λ e. own (UpTo a) b (i, is-greater a b h i e)) (λ e. this-up-to))
 
-  lower-left : Decimal l → place l ≤ place (overlapLower l r)
-  unfolding overlapLower
-  lower-left t = go (isLess (scalarOrder l r)) (λ e. less-place t (less-same l r e) e)
-    where
-      go : (b : Bool) → (b ≡ true → place l ≤ place r) → place l ≤ place (cond b r l)
-      go true y = y refl
-      go false y = le-refl (place l)
+    lower-right : (l : Scalar) → Decimal64 l → Each (From a) (asDecimal128 p s (overlapLower l this))
+    unfolding overlapLower
+    lower-right l =
+        decimal128-or-none p s
+        (λ l o. asDecimal128 p s l ≡ o → Decimal64 l → Each (From a) (asDecimal128 p s (cond (isLess (scalarOrder l this)) this l)))
+        (λ l n k. tested (From a) (isLess (scalarOrder l this)) this l (λ e. this-from) (λ e. subst (Each (From a)) (sym n) tt))
+        (λ b n k. let i = held b k in tested (From a) (isLess (scalarOrder (Decimal128 b p s) this)) this (Decimal128 b p s) (λ e. this-from) (λ e. own (From a) b (i, is-not-less b a i h (sym (ap isLess (decimal-order b a p s)) ∙ e))))
+        l refl
 
-  upper-left : Decimal l → place (overlapUpper l r) ≤ place l
-  unfolding overlapUpper
-  upper-left t = go (isGreater (scalarOrder l r)) (λ e. greater-place t (greater-same l r e) e)
-    where
-      go : (b : Bool) → (b ≡ true → place r ≤ place l) → place (cond b r l) ≤ place l
-      go true y = y refl
-      go false y = le-refl (place l)
+    upper-right : (l : Scalar) → Decimal64 l → Each (UpTo a) (asDecimal128 p s (overlapUpper l this))
+    unfolding overlapUpper
+    upper-right l =
+        decimal128-or-none p s
+        (λ l o. asDecimal128 p s l ≡ o → Decimal64 l → Each (UpTo a) (asDecimal128 p s (cond (isGreater (scalarOrder l this)) this l)))
+        (λ l n k. tested (UpTo a) (isGreater (scalarOrder l this)) this l (λ e. this-up-to) (λ e. subst (Each (UpTo a)) (sym n) tt))
+        (λ b n k. let i = held b k in tested (UpTo a) (isGreater (scalarOrder (Decimal128 b p s) this)) this (Decimal128 b p s) (λ e. this-up-to) (λ e. own (UpTo a) b (i, is-not-greater b a i h (sym (ap isGreater (decimal-order b a p s)) ∙ e))))
+        l refl
 
-  lower-right : Decimal r → OneType r (overlapLower l r) → place r ≤ place (overlapLower l r)
-  unfolding overlapLower
-  lower-right t = go (isLess (scalarOrder l r)) (λ s e. not-less-place (decimal-too r l s t) (sym s) e)
-    where
-      go : (b : Bool) → (OneType r l → b ≡ false → place r ≤ place l) → OneType r (cond b r l) → place r ≤ place (cond b r l)
-      go true y s = le-refl (place r)
-      go false y s = y s refl
+  -- a range from a decimal on, on the left and on the right
+  pub left-decimals : (a : ℤ) (lu rl ru : Scalar) → In64 a → Decimal64 lu → Decimal64 rl → Decimal64 ru
+      → InUnit (endsFraction (decimalEnds a (asDecimal128 p s lu) (asDecimal128 p s (overlapLower (Decimal128 a p s) rl)) (asDecimal128 p s (overlapUpper lu ru))))
+  left-decimals a lu rl ru h hlu hrl hru =
+      decimal128-or-none p s
+      (λ u o. Decimal64 u → InUnit (endsFraction (decimalEnds a o (asDecimal128 p s (overlapLower (Decimal128 a p s) rl)) (asDecimal128 p s (overlapUpper u ru)))))
+      (λ u k. unlike-unit)
+      (λ b k. let i = held b k in decimals-unit a b (asDecimal128 p s (overlapLower (Decimal128 a p s) rl)) (asDecimal128 p s (overlapUpper (Decimal128 b p s) ru)) h i (lower-left a h rl hrl) (upper-left b i ru hru))
+      lu hlu
 
-  upper-right : Decimal r → OneType r (overlapUpper l r) → place (overlapUpper l r) ≤ place r
-  unfolding overlapUpper
-  upper-right t = go (isGreater (scalarOrder l r)) (λ s e. not-greater-place (decimal-too r l s t) (sym s) e)
-    where
-      go : (b : Bool) → (OneType r l → b ≡ false → place l ≤ place r) → OneType r (cond b r l) → place (cond b r l) ≤ place r
-      go true y s = le-refl (place r)
-      go false y s = y s refl
-
-  lower-64 : Whole64 (overlapLower l r)
-  unfolding overlapLower
-  lower-64 = go (isLess (scalarOrder l r))
-    where
-      go : (b : Bool) → Whole64 (cond b r l)
-      go true = k
-      go false = h
-
-  upper-64 : Whole64 (overlapUpper l r)
-  unfolding overlapUpper
-  upper-64 = go (isGreater (scalarOrder l r))
-    where
-      go : (b : Bool) → Whole64 (cond b r l)
-      go true = k
-      go false = h
-
--- ---- the fraction
-
-cases : (s d f e : Bool) (A B C : IntervalFraction) → InUnit A → (f ≡ true → ⊥) → (T s → e ≡ true → InUnit C) → InUnit (cond s (cond d A (cond f B (cond e C NoFraction))) NoFraction)
-cases false d f e A B C x y z = tt
-cases true true f e A B C x y z = x
-cases true false true e A B C x y z = absurd (y refl)
-cases true false false true A B C x y z = z tt refl
-cases true false false false A B C x y z = tt
-
-fraction-unit : (l u ol ou : Scalar) → Whole64 l → Whole64 u → Whole64 ol → Whole64 ou → (scalarType l .tag ≡ 4 → ⊥) → (T (sameTypes l u ol ou) → Decimal l → (place l ≤ place ol) × (place ou ≤ place u)) → InUnit (scalarIntervalFraction l u ol ou)
-unfolding scalarIntervalFraction
-fraction-unit l u ol ou hl hu hol hou other near =
-    let tag = scalarType l .tag in
-    cases (sameTypes l u ol ou) (isDiscrete tag) (eqb tag 4) (eqb tag 5) _ _ _ (discrete-unit (scalarInteger l) (scalarInteger u) (scalarInteger ol) (scalarInteger ou) hl hu hol hou) (λ e. other (eqb-true tag 4 e))
-    (λ s e. let n = near s (eqb-true tag 5 e) in decimal-unit (scalarInteger l) (scalarInteger u) (scalarInteger ol) (scalarInteger ou) hl hu hol hou (n .0) (n .1))
-
--- the types of the upper end, of the overlap's lower one and of its upper one
-module _ (l u ol ou : Scalar) (s : T (sameTypes l u ol ou)) where
-  same-upper : OneType l u
-  unfolding sameTypes
-  same-upper = same-equal (scalarType l) (scalarType u) (and-l (sameType (scalarType l) (scalarType u)) _ s)
-
-  same-lower-2 : OneType l ol
-  unfolding sameTypes
-  same-lower-2 = same-equal (scalarType l) (scalarType ol) (and-l (sameType (scalarType l) (scalarType ol)) _ (and-r (sameType (scalarType l) (scalarType u)) _ s))
-
-  same-upper-2 : OneType u ou
-  unfolding sameTypes
-  same-upper-2 = sym same-upper ∙ same-equal (scalarType l) (scalarType ou) (and-r (sameType (scalarType l) (scalarType ol)) _ (and-r (sameType (scalarType l) (scalarType u)) _ s))
-
-module _ (ll lu rl ru : Scalar) (hll : Whole64 ll) (hlu : Whole64 lu) (hrl : Whole64 rl) (hru : Whole64 ru) where
-  pub left-fraction : (scalarType ll .tag ≡ 4 → ⊥) → InUnit (scalarIntervalFraction ll lu (overlapLower ll rl) (overlapUpper lu ru))
-  left-fraction other =
-      fraction-unit ll lu (overlapLower ll rl) (overlapUpper lu ru) hll hlu (lower-64 ll rl hll hrl) (upper-64 lu ru hlu hru) other
-      (λ s t. (lower-left ll rl hll hrl t, upper-left lu ru hlu hru (decimal-too ll lu (same-upper ll lu _ _ s) t)))
-
-  pub right-fraction : (scalarType rl .tag ≡ 4 → ⊥) → InUnit (scalarIntervalFraction rl ru (overlapLower ll rl) (overlapUpper lu ru))
-  right-fraction other =
-      fraction-unit rl ru (overlapLower ll rl) (overlapUpper lu ru) hrl hru (lower-64 ll rl hll hrl) (upper-64 lu ru hlu hru) other
-      (λ s t. (lower-right ll rl hll hrl t (same-lower-2 rl ru _ _ s), upper-right lu ru hlu hru (decimal-too rl ru (same-upper rl ru _ _ s) t) (same-upper-2 rl ru _ _ s)))
+  pub right-decimals : (a : ℤ) (ll lu ru : Scalar) → In64 a → Decimal64 ll → Decimal64 lu → Decimal64 ru
+      → InUnit (endsFraction (decimalEnds a (asDecimal128 p s ru) (asDecimal128 p s (overlapLower ll (Decimal128 a p s))) (asDecimal128 p s (overlapUpper lu ru))))
+  right-decimals a ll lu ru h hll hlu hru =
+      decimal128-or-none p s
+      (λ u o. Decimal64 u → InUnit (endsFraction (decimalEnds a o (asDecimal128 p s (overlapLower ll (Decimal128 a p s))) (asDecimal128 p s (overlapUpper lu u)))))
+      (λ u k. unlike-unit)
+      (λ b k. let i = held b k in decimals-unit a b (asDecimal128 p s (overlapLower ll (Decimal128 a p s))) (asDecimal128 p s (overlapUpper lu (Decimal128 b p s))) h i (lower-right a h ll hll) (upper-right b i lu hlu))
+      ru hru

@@ -10,7 +10,6 @@ use Rattle.records.specs.declared.columns.ColumnProfile.{ColumnProfile}
 use Rattle.interval.specs.Fraction.{scalarIntervalFraction}
 use Rattle.interval.specs.Intersection.{estimatedDistinctIntersection}
 use Rattle.interval.specs.declared.fraction.IntervalFraction.the-variants.{NoFraction, Fraction}
-use Rattle.interval.specs.declared.intersection.DistinctIntersection.{DistinctIntersection}
 
 -- ---- fractions
 

@@ -1,14 +1,24 @@
 -- `scalar_interval_fraction` of the source's analysis.rs: which part of the values from lower to upper lies in an overlap. The types are looked at first, then whether they have a width, then the width itself. Definitions only.
-use Prim.Native.Nat.{ℕ, zero, suc}
+use Prim.Native.Nat.{zero, suc}
 use mathlib.Core.Bool.{Bool, true, false, cond, not, _&&_, _||_}
-use lib.Dec.{eqb}
 use lib.IntN.{ℤ, pos, negsuc, _+ℤ_, _-ℤ_}
 use lib.Ieee.{Float, binary64, ofInt, sub, div, lt, eq}
 use lib.Ieee.Scale.{finite}
+use Rattle.float.specs.Integers.{bit}
 use Rattle.float.specs.Order.{f64Zero, f64One, clampUnit}
-use Rattle.scalar.specs.Types.{scalarType, sameType}
-use Rattle.scalar.specs.Order.{scalarIntegers, scalarFloat}
+use Rattle.scalar.specs.Types.{isNull, asBoolean, asInt32, asInt64, asFloat64, asDecimal128, asDate32, asMonthDayNano, asDayTime}
 use Rattle.scalar.specs.declared.Scalar.{Scalar}
+use Rattle.scalar.specs.declared.Scalar.the-variants.{Null, Boolean, Int32, Int64, Float64, Decimal128, Date32, IntervalMonthDayNano, IntervalDayTime}
+use Rattle.scalar.specs.declared.types.IntegerOption.{IntegerOption}
+use Rattle.scalar.specs.declared.types.IntegerOption.the-variants.{NoInteger, Integer}
+use Rattle.scalar.specs.declared.types.FloatOption.{FloatOption}
+use Rattle.scalar.specs.declared.types.FloatOption.the-variants.{NoFloat, FloatNumber}
+use Rattle.scalar.specs.declared.types.MonthDayNanoOption.{MonthDayNanoOption}
+use Rattle.scalar.specs.declared.types.MonthDayNanoOption.the-variants.{NoMonthDayNano, MonthDayNano}
+use Rattle.scalar.specs.declared.types.DayTimeOption.{DayTimeOption}
+use Rattle.scalar.specs.declared.types.DayTimeOption.the-variants.{NoDayTime, DayTime}
+use Rattle.interval.specs.declared.fraction.ScalarEnds.{ScalarEnds}
+use Rattle.interval.specs.declared.fraction.ScalarEnds.the-variants.{UnlikeTypes, NoWidth, Integers, Floats, Decimals}
 use Rattle.interval.specs.declared.fraction.IntervalFraction.{IntervalFraction}
 use Rattle.interval.specs.declared.fraction.IntervalFraction.the-variants.{NoFraction, Fraction}
 
@@ -38,36 +48,63 @@ decimal lower upper overlapLower overlapUpper =
     let overlap = overlapUpper -ℤ overlapLower in
     cond (isZero width) (Fraction f64One) (Fraction (clampUnit (div binary64 (ofInt binary64 overlap) (ofInt binary64 width))))
 
--- the tags of booleans, whole numbers and days
-abbrev pub isDiscrete : ℕ → Bool
-isDiscrete tag = (eqb tag 1 || eqb tag 2) || (eqb tag 3 || eqb tag 6)
+-- ---- the types
 
--- the one whole number of a boolean, a whole number, a day or a decimal
-abbrev pub scalarInteger : Scalar → ℤ
-scalarInteger x = scalarIntegers x .first
+-- the upper end and the overlap's two beside the lower end: all of its type, or unlike
+abbrev pub integerEnds : ℤ → IntegerOption → IntegerOption → IntegerOption → ScalarEnds
+integerEnds lower NoInteger overlapLower overlapUpper = UnlikeTypes
+integerEnds lower (Integer upper) NoInteger overlapUpper = UnlikeTypes
+integerEnds lower (Integer upper) (Integer overlapLower) NoInteger = UnlikeTypes
+integerEnds lower (Integer upper) (Integer overlapLower) (Integer overlapUpper) = Integers lower upper overlapLower overlapUpper
 
--- four scalars of the type with this tag: 4 for floats, 5 for decimals; a type that is none of these has no width
-unfoldable pub typedFraction : ℕ → Scalar → Scalar → Scalar → Scalar → IntervalFraction
-unfolding scalarIntegers scalarFloat discrete continuous decimal
-typedFraction tag lower upper overlapLower overlapUpper =
-    cond (isDiscrete tag)
-    (discrete (scalarInteger lower) (scalarInteger upper) (scalarInteger overlapLower) (scalarInteger overlapUpper))
-    (cond (eqb tag 4)
-    (continuous (scalarFloat lower) (scalarFloat upper) (scalarFloat overlapLower) (scalarFloat overlapUpper))
-    (cond (eqb tag 5)
-    (decimal (scalarInteger lower) (scalarInteger upper) (scalarInteger overlapLower) (scalarInteger overlapUpper))
-    NoFraction))
+abbrev pub floatEnds : Float → FloatOption → FloatOption → FloatOption → ScalarEnds
+floatEnds lower NoFloat overlapLower overlapUpper = UnlikeTypes
+floatEnds lower (FloatNumber upper) NoFloat overlapUpper = UnlikeTypes
+floatEnds lower (FloatNumber upper) (FloatNumber overlapLower) NoFloat = UnlikeTypes
+floatEnds lower (FloatNumber upper) (FloatNumber overlapLower) (FloatNumber overlapUpper) = Floats lower upper overlapLower overlapUpper
 
--- one type for all four, and for decimals one precision and scale
-unfoldable pub sameTypes : Scalar → Scalar → Scalar → Scalar → Bool
-unfolding scalarType
-sameTypes lower upper overlapLower overlapUpper =
-    sameType (scalarType lower) (scalarType upper)
-    && (sameType (scalarType lower) (scalarType overlapLower) && sameType (scalarType lower) (scalarType overlapUpper))
+abbrev pub decimalEnds : ℤ → IntegerOption → IntegerOption → IntegerOption → ScalarEnds
+decimalEnds lower NoInteger overlapLower overlapUpper = UnlikeTypes
+decimalEnds lower (Integer upper) NoInteger overlapUpper = UnlikeTypes
+decimalEnds lower (Integer upper) (Integer overlapLower) NoInteger = UnlikeTypes
+decimalEnds lower (Integer upper) (Integer overlapLower) (Integer overlapUpper) = Decimals lower upper overlapLower overlapUpper
+
+-- of a type without a width: whether the other three are of it
+abbrev pub widthlessEnds : Bool → Bool → Bool → ScalarEnds
+widthlessEnds upper overlapLower overlapUpper = cond (upper && (overlapLower && overlapUpper)) NoWidth UnlikeTypes
+
+abbrev pub isMonthDayNano : MonthDayNanoOption → Bool
+isMonthDayNano NoMonthDayNano = false
+isMonthDayNano (MonthDayNano months days nanoseconds) = true
+
+abbrev pub isDayTime : DayTimeOption → Bool
+isDayTime NoDayTime = false
+isDayTime (DayTime days milliseconds) = true
+
+unfoldable pub scalarEnds : Scalar → Scalar → Scalar → Scalar → ScalarEnds
+scalarEnds Null upper overlapLower overlapUpper = widthlessEnds (isNull upper) (isNull overlapLower) (isNull overlapUpper)
+scalarEnds (Boolean b) upper overlapLower overlapUpper = integerEnds (pos (bit b)) (asBoolean upper) (asBoolean overlapLower) (asBoolean overlapUpper)
+scalarEnds (Int32 x) upper overlapLower overlapUpper = integerEnds x (asInt32 upper) (asInt32 overlapLower) (asInt32 overlapUpper)
+scalarEnds (Int64 x) upper overlapLower overlapUpper = integerEnds x (asInt64 upper) (asInt64 overlapLower) (asInt64 overlapUpper)
+scalarEnds (Float64 x) upper overlapLower overlapUpper = floatEnds x (asFloat64 upper) (asFloat64 overlapLower) (asFloat64 overlapUpper)
+scalarEnds (Decimal128 value precision scale) upper overlapLower overlapUpper =
+    decimalEnds value (asDecimal128 precision scale upper) (asDecimal128 precision scale overlapLower) (asDecimal128 precision scale overlapUpper)
+scalarEnds (Date32 x) upper overlapLower overlapUpper = integerEnds x (asDate32 upper) (asDate32 overlapLower) (asDate32 overlapUpper)
+scalarEnds (IntervalMonthDayNano months days nanoseconds) upper overlapLower overlapUpper =
+    widthlessEnds (isMonthDayNano (asMonthDayNano upper)) (isMonthDayNano (asMonthDayNano overlapLower)) (isMonthDayNano (asMonthDayNano overlapUpper))
+scalarEnds (IntervalDayTime days milliseconds) upper overlapLower overlapUpper =
+    widthlessEnds (isDayTime (asDayTime upper)) (isDayTime (asDayTime overlapLower)) (isDayTime (asDayTime overlapUpper))
+
+-- ---- the fraction
+
+unfoldable pub endsFraction : ScalarEnds → IntervalFraction
+unfolding discrete continuous decimal
+endsFraction UnlikeTypes = NoFraction
+endsFraction NoWidth = NoFraction
+endsFraction (Integers lower upper overlapLower overlapUpper) = discrete lower upper overlapLower overlapUpper
+endsFraction (Floats lower upper overlapLower overlapUpper) = continuous lower upper overlapLower overlapUpper
+endsFraction (Decimals lower upper overlapLower overlapUpper) = decimal lower upper overlapLower overlapUpper
 
 unfoldable pub scalarIntervalFraction : Scalar → Scalar → Scalar → Scalar → IntervalFraction
-unfolding scalarType sameTypes typedFraction
-scalarIntervalFraction lower upper overlapLower overlapUpper =
-    cond (sameTypes lower upper overlapLower overlapUpper)
-    (typedFraction (scalarType lower .tag) lower upper overlapLower overlapUpper)
-    NoFraction
+unfolding scalarEnds endsFraction
+scalarIntervalFraction lower upper overlapLower overlapUpper = endsFraction (scalarEnds lower upper overlapLower overlapUpper)

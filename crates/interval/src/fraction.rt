@@ -1,20 +1,55 @@
 // scalar_interval_fraction of the source's analysis.rs.
 ghost use mathlib.Core.Path.{_≡_};
 ghost use lib.Ieee.Scale.{finite};
-ghost use Rattle.interval.specs.Fraction.{discrete, continuous, decimal, isDiscrete, scalarInteger, typedFraction, sameTypes, scalarIntervalFraction};
+ghost use Rattle.interval.specs.Fraction.{discrete, continuous, decimal, integerEnds, floatEnds, decimalEnds, widthlessEnds, isMonthDayNano, isDayTime, scalarEnds, endsFraction, scalarIntervalFraction};
 use float::integers::nearest_difference;
 use float::order::clamp_unit;
 use rules::both;
 use rules::either;
 use scalar::Scalar;
-use scalar::order::scalar_float;
-use scalar::order::scalar_integers;
-use scalar::same_type;
-use scalar::scalar_type;
+use scalar::is_null;
+use scalar::types::DayTimeOption;
+use scalar::types::FloatOption;
+use scalar::types::IntegerOption;
+use scalar::types::MonthDayNanoOption;
+use scalar::types::as_boolean;
+use scalar::types::as_date32;
+use scalar::types::as_day_time;
+use scalar::types::as_decimal128;
+use scalar::types::as_float64;
+use scalar::types::as_int32;
+use scalar::types::as_int64;
+use scalar::types::as_month_day_nano;
+use scalar::types::boolean_integer;
+use signed::i32_to_i64;
 
 pub enum IntervalFraction {
     NoFraction,
     Fraction(f64),
+}
+
+// Four ends, by the type of all four: those of a range and of its overlap.
+pub enum ScalarEnds {
+    UnlikeTypes,
+    NoWidth,
+    Integers {
+        lower: i64,
+        upper: i64,
+        overlap_lower: i64,
+        overlap_upper: i64,
+    },
+    Floats {
+        lower: f64,
+        upper: f64,
+        overlap_lower: f64,
+        overlap_upper: f64,
+    },
+    Decimals {
+        lower: i64,
+        upper: i64,
+        overlap_lower: i64,
+        overlap_upper: i64,
+    },
 }
 
 fn is_finite(x: f64) -> bool
@@ -58,63 +93,216 @@ fn decimal(lower: i64, upper: i64, overlap_lower: i64, overlap_upper: i64) -> In
     IntervalFraction::Fraction(clamp_unit(overlap / width))
 }
 
-// Booleans, whole numbers and days.
-fn is_discrete(tag: u8) -> bool
-    ensures { λ r. ⌜ r ≡ isDiscrete tag ⌝ }
+// The upper end and the overlap's two beside the lower end: all of its type, or unlike.
+fn integer_ends(
+    lower: i64,
+    upper: IntegerOption,
+    overlap_lower: IntegerOption,
+    overlap_upper: IntegerOption,
+) -> ScalarEnds
+    ensures { λ r. ⌜ r ≡ integerEnds lower upper «overlap_lower» «overlap_upper» ⌝ }
 {
-    either(either(tag == 1, tag == 2), either(tag == 3, tag == 6))
+    match upper {
+        IntegerOption::NoInteger => ScalarEnds::UnlikeTypes,
+        IntegerOption::Integer(u) => match overlap_lower {
+            IntegerOption::NoInteger => ScalarEnds::UnlikeTypes,
+            IntegerOption::Integer(ol) => match overlap_upper {
+                IntegerOption::NoInteger => ScalarEnds::UnlikeTypes,
+                IntegerOption::Integer(ou) => ScalarEnds::Integers {
+                    lower,
+                    upper: u,
+                    overlap_lower: ol,
+                    overlap_upper: ou,
+                },
+            },
+        },
+    }
 }
 
-// The one whole number of a boolean, a whole number, a day or a decimal.
-fn scalar_integer(x: Scalar) -> i64
-    ensures { λ r. ⌜ r ≡ scalarInteger x ⌝ }
+fn float_ends(
+    lower: f64,
+    upper: FloatOption,
+    overlap_lower: FloatOption,
+    overlap_upper: FloatOption,
+) -> ScalarEnds
+    ensures { λ r. ⌜ r ≡ floatEnds lower upper «overlap_lower» «overlap_upper» ⌝ }
 {
-    scalar_integers(x).first
+    match upper {
+        FloatOption::NoFloat => ScalarEnds::UnlikeTypes,
+        FloatOption::FloatNumber(u) => match overlap_lower {
+            FloatOption::NoFloat => ScalarEnds::UnlikeTypes,
+            FloatOption::FloatNumber(ol) => match overlap_upper {
+                FloatOption::NoFloat => ScalarEnds::UnlikeTypes,
+                FloatOption::FloatNumber(ou) => ScalarEnds::Floats {
+                    lower,
+                    upper: u,
+                    overlap_lower: ol,
+                    overlap_upper: ou,
+                },
+            },
+        },
+    }
 }
 
-// The fraction for four scalars of the type with this tag.
-fn typed_fraction(
-    tag: u8,
+fn decimal_ends(
+    lower: i64,
+    upper: IntegerOption,
+    overlap_lower: IntegerOption,
+    overlap_upper: IntegerOption,
+) -> ScalarEnds
+    ensures { λ r. ⌜ r ≡ decimalEnds lower upper «overlap_lower» «overlap_upper» ⌝ }
+{
+    match upper {
+        IntegerOption::NoInteger => ScalarEnds::UnlikeTypes,
+        IntegerOption::Integer(u) => match overlap_lower {
+            IntegerOption::NoInteger => ScalarEnds::UnlikeTypes,
+            IntegerOption::Integer(ol) => match overlap_upper {
+                IntegerOption::NoInteger => ScalarEnds::UnlikeTypes,
+                IntegerOption::Integer(ou) => ScalarEnds::Decimals {
+                    lower,
+                    upper: u,
+                    overlap_lower: ol,
+                    overlap_upper: ou,
+                },
+            },
+        },
+    }
+}
+
+// Of a type without a width: whether the other three are of it.
+fn widthless_ends(upper: bool, overlap_lower: bool, overlap_upper: bool) -> ScalarEnds
+    ensures { λ r. ⌜ r ≡ widthlessEnds upper «overlap_lower» «overlap_upper» ⌝ }
+{
+    if both(upper, both(overlap_lower, overlap_upper)) {
+        return ScalarEnds::NoWidth;
+    }
+    ScalarEnds::UnlikeTypes
+}
+
+fn is_month_day_nano(x: MonthDayNanoOption) -> bool
+    ensures { λ r. ⌜ r ≡ isMonthDayNano x ⌝ }
+{
+    match x {
+        MonthDayNanoOption::NoMonthDayNano => false,
+        MonthDayNanoOption::MonthDayNano {
+            months: _,
+            days: _,
+            nanoseconds: _,
+        } => true,
+    }
+}
+
+fn is_day_time(x: DayTimeOption) -> bool
+    ensures { λ r. ⌜ r ≡ isDayTime x ⌝ }
+{
+    match x {
+        DayTimeOption::NoDayTime => false,
+        DayTimeOption::DayTime {
+            days: _,
+            milliseconds: _,
+        } => true,
+    }
+}
+
+fn scalar_ends(
     lower: Scalar,
     upper: Scalar,
     overlap_lower: Scalar,
     overlap_upper: Scalar,
-) -> IntervalFraction
-    ensures { λ r. ⌜ r ≡ typedFraction tag lower upper «overlap_lower» «overlap_upper» ⌝ }
+) -> ScalarEnds
+    ensures { λ r. ⌜ r ≡ scalarEnds lower upper «overlap_lower» «overlap_upper» ⌝ }
 {
-    let a = scalar_integer(lower);
-    let b = scalar_integer(upper);
-    let c = scalar_integer(overlap_lower);
-    let d = scalar_integer(overlap_upper);
-    if is_discrete(tag) {
-        return discrete(a, b, c, d);
+    match lower {
+        Scalar::Null => widthless_ends(
+            is_null(upper),
+            is_null(overlap_lower),
+            is_null(overlap_upper),
+        ),
+        Scalar::Boolean(b) => integer_ends(
+            boolean_integer(b),
+            as_boolean(upper),
+            as_boolean(overlap_lower),
+            as_boolean(overlap_upper),
+        ),
+        Scalar::Int32(v) => integer_ends(
+            i32_to_i64(v),
+            as_int32(upper),
+            as_int32(overlap_lower),
+            as_int32(overlap_upper),
+        ),
+        Scalar::Int64(v) => integer_ends(
+            v,
+            as_int64(upper),
+            as_int64(overlap_lower),
+            as_int64(overlap_upper),
+        ),
+        Scalar::Float64(v) => float_ends(
+            v,
+            as_float64(upper),
+            as_float64(overlap_lower),
+            as_float64(overlap_upper),
+        ),
+        Scalar::Decimal128 {
+            value,
+            precision,
+            scale,
+        } => decimal_ends(
+            value,
+            as_decimal128(precision, scale, upper),
+            as_decimal128(precision, scale, overlap_lower),
+            as_decimal128(precision, scale, overlap_upper),
+        ),
+        Scalar::Date32(v) => integer_ends(
+            i32_to_i64(v),
+            as_date32(upper),
+            as_date32(overlap_lower),
+            as_date32(overlap_upper),
+        ),
+        Scalar::IntervalMonthDayNano {
+            months: _,
+            days: _,
+            nanoseconds: _,
+        } => widthless_ends(
+            is_month_day_nano(as_month_day_nano(upper)),
+            is_month_day_nano(as_month_day_nano(overlap_lower)),
+            is_month_day_nano(as_month_day_nano(overlap_upper)),
+        ),
+        Scalar::IntervalDayTime {
+            days: _,
+            milliseconds: _,
+        } => widthless_ends(
+            is_day_time(as_day_time(upper)),
+            is_day_time(as_day_time(overlap_lower)),
+            is_day_time(as_day_time(overlap_upper)),
+        ),
     }
-    if tag == 4 {
-        return continuous(
-            scalar_float(lower),
-            scalar_float(upper),
-            scalar_float(overlap_lower),
-            scalar_float(overlap_upper),
-        );
-    }
-    if tag == 5 {
-        return decimal(a, b, c, d);
-    }
-    IntervalFraction::NoFraction
 }
 
-// One type for all four, and for decimals one precision and scale.
-fn same_types(lower: Scalar, upper: Scalar, overlap_lower: Scalar, overlap_upper: Scalar) -> bool
-    ensures { λ r. ⌜ r ≡ sameTypes lower upper «overlap_lower» «overlap_upper» ⌝ }
+fn ends_fraction(ends: ScalarEnds) -> IntervalFraction
+    ensures { λ r. ⌜ r ≡ endsFraction ends ⌝ }
 {
-    let kind = scalar_type(lower);
-    both(
-        same_type(kind, scalar_type(upper)),
-        both(
-            same_type(kind, scalar_type(overlap_lower)),
-            same_type(kind, scalar_type(overlap_upper)),
-        ),
-    )
+    match ends {
+        ScalarEnds::UnlikeTypes => IntervalFraction::NoFraction,
+        ScalarEnds::NoWidth => IntervalFraction::NoFraction,
+        ScalarEnds::Integers {
+            lower,
+            upper,
+            overlap_lower,
+            overlap_upper,
+        } => discrete(lower, upper, overlap_lower, overlap_upper),
+        ScalarEnds::Floats {
+            lower,
+            upper,
+            overlap_lower,
+            overlap_upper,
+        } => continuous(lower, upper, overlap_lower, overlap_upper),
+        ScalarEnds::Decimals {
+            lower,
+            upper,
+            overlap_lower,
+            overlap_upper,
+        } => decimal(lower, upper, overlap_lower, overlap_upper),
+    }
 }
 
 pub fn scalar_interval_fraction(
@@ -125,9 +313,5 @@ pub fn scalar_interval_fraction(
 ) -> IntervalFraction
     ensures { λ r. ⌜ r ≡ scalarIntervalFraction lower upper «overlap_lower» «overlap_upper» ⌝ }
 {
-    if same_types(lower, upper, overlap_lower, overlap_upper) {
-        let kind = scalar_type(lower);
-        return typed_fraction(kind.tag, lower, upper, overlap_lower, overlap_upper);
-    }
-    IntervalFraction::NoFraction
+    ends_fraction(scalar_ends(lower, upper, overlap_lower, overlap_upper))
 }

@@ -1,3 +1,3 @@
 pub mod Residual
 pub mod Join
-pub mod Held
+pub mod Joined

@@ -1,18 +1,32 @@
 // join_selectivity_from_conjuncts_with_config of the source's analysis.rs.
+ghost use mathlib.Core.Path.{_≡_};
 ghost use Prim.Native.Nat.{_*_, _≤_};
 ghost use lib.ListN.{length};
+ghost use Rattle.le.specs.Fields.{onto};
 ghost use Rattle.sheet.specs.Sheet.{sheetOf};
+ghost use Rattle.edge_fold.specs.Coverages.{coverageSize, coveragesBytes};
 ghost use Rattle.join.specs.Join.{joinSelectivityFromConjuncts};
-ghost use Rattle.edge_fold.specs.Coverages.{coverageSize};
-ghost use Rattle.join.specs.Held.{JoinHeld};
-use edge_fold::fold::fold_pairs;
-use equality_pairs::pairs::put_pairs;
+ghost use Rattle.join.specs.Joined.{joined};
+use class_state::EquivalenceClassState;
+use class_state::profiles::from_profiles;
+use class_state::slots::root_of;
+use class_state::unions::move_roots;
+use class_state::unions::united;
+use conjuncts::take_conjuncts;
+use edge_fold::edges::equality_edge;
+use edge_fold::fold::EqualityFigures;
+use edge_fold::fold::EqualityTotals;
+use edge_fold::fold::edge_totals;
+use edge_order::edge_order;
+use equality_pairs::non_null::non_null_marks;
+use equality_pairs::slots::column_at;
+use equality_pairs::slots::flag_at;
 use estimate::Estimate;
 use figures::join_figures;
 use lookup::profiles::right_rows;
-use residual::residual_selectivity;
 use sheet::Sections;
 
+mod conjuncts;
 mod figures;
 mod residual;
 
@@ -22,12 +36,19 @@ pub struct Joined {
     pub selectivity: Estimate,
     pub match_probability: Estimate,
     pub residual_selectivity: f64,
-    pub roots: [u8; 128],
-    pub places: [usize; 128],
+    pub classes: EquivalenceClassState,
     pub marks: [bool; 128],
     pub coverages: usize,
 }
 
+// A number of an edge as an index.
+fn wide(x: u8) -> usize
+    ensures { λ r. ⌜ r ≡ x ⌝ }
+{
+    x as usize
+}
+
+// The edges' distincts are those of the classes that the profiles give.
 pub fn join_selectivity_from_conjuncts(
     s: &[u8],
     q: Sections,
@@ -35,28 +56,89 @@ pub fn join_selectivity_from_conjuncts(
     coverages: &mut [u8],
 ) -> Joined
     requires { ⌜ (length (now conjuncts) ≤ 64) × (coverageSize * 64 ≤ length (now coverages)) ⌝ }
-    ensures { λ r. ⌜ JoinHeld (now (s .entry)) q (joinSelectivityFromConjuncts (sheetOf (now (s .entry)) q) (now (conjuncts .entry))) r (now (coverages .entry)) (now (coverages .exit)) ⌝ }
+    ensures { λ r. ⌜ r ≡ joined (sheetOf (now (s .entry)) q) (now (conjuncts .entry)) ⌝ }
+    ensures { λ _. ⌜ now (coverages .exit) ≡ onto (coveragesBytes (joinSelectivityFromConjuncts (sheetOf (now (s .entry)) q) (now (conjuncts .entry)) .leftEqualityCoverages)) (now (coverages .entry)) ⌝ }
 {
     let mut lefts = [0u16; 64];
     let mut rights = [0u16; 64];
     let mut null_safes = [false; 64];
-    let n = put_pairs(s, q, conjuncts, &mut lefts, &mut rights, &mut null_safes);
-    let folded = fold_pairs(s, q, &lefts, &rights, &null_safes, n, coverages);
-    let residual = residual_selectivity(s, q, conjuncts);
-    let totals = folded.totals;
+    let taken = take_conjuncts(s, q, conjuncts, &mut lefts, &mut rights, &mut null_safes);
+    let n = taken.pairs;
+    let residual = taken.residual_selectivity;
+    let marks = non_null_marks(&lefts, &rights, &null_safes, n);
+    let profiles = from_profiles(s, q);
+    let profile_roots = profiles.roots;
+    let mut keys = [0.0f64; 64];
+    let mut kinds = [false; 64];
+    let mut i: usize = 0;
+    while i < n {
+        let left = column_at(&lefts, i);
+        let right = column_at(&rights, i);
+        let a = root_of(&profile_roots, left) as usize;
+        let b = root_of(&profile_roots, right) as usize;
+        let edge = equality_edge(
+            &marks,
+            left,
+            right,
+            flag_at(&null_safes, i),
+            profiles.distincts[a],
+            profiles.distincts[b],
+        );
+        keys[i] = edge.chosen_ndv.value;
+        kinds[i] = edge.null_safe;
+        i += 1;
+    }
+    let mut order = [0u8; 64];
+    edge_order(&keys, &kinds, n, &mut order);
+    let mut totals = EqualityTotals {
+        figures: EqualityFigures {
+            selectivity: 1.0,
+            match_probability: 1.0,
+            has_cross_input_equality: false,
+        },
+        coverages: 0,
+    };
+    let mut roots = profiles.roots;
+    let mut distincts = profiles.distincts;
+    let mut j = 64 - n;
+    while j < 64 {
+        let k = wide(order[j]);
+        let left = column_at(&lefts, k);
+        let right = column_at(&rights, k);
+        let a = root_of(&profile_roots, left) as usize;
+        let b = root_of(&profile_roots, right) as usize;
+        let edge = equality_edge(
+            &marks,
+            left,
+            right,
+            flag_at(&null_safes, k),
+            profiles.distincts[a],
+            profiles.distincts[b],
+        );
+        let to = root_of(&roots, left);
+        let from = root_of(&roots, right);
+        totals = edge_totals(s, q, totals, edge, to == from, coverages);
+        let there = to as usize;
+        let other = from as usize;
+        distincts[there] = united(
+            to == from,
+            distincts[there],
+            distincts[other],
+            edge.chosen_ndv,
+        );
+        move_roots(&mut roots, from, to);
+        j += 1;
+    }
     let equality = totals.figures;
     let figures = join_figures(equality, right_rows(s, q), residual);
     let selectivity = figures.selectivity;
     let match_probability = figures.match_probability;
-    let roots = folded.roots;
-    let places = folded.places;
-    let marks = folded.marks;
+    let classes = EquivalenceClassState { roots, distincts };
     Joined {
         selectivity,
         match_probability,
         residual_selectivity: residual,
-        roots,
-        places,
+        classes,
         marks,
         coverages: totals.coverages,
     }

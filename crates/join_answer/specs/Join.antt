@@ -7,7 +7,7 @@ use Rattle.le.specs.Floats.{f64Bytes}
 use Rattle.estimate.specs.Bytes.{estimateBytes}
 use Rattle.number_bytes.specs.Numbers.{numbersBytes}
 use Rattle.sheet.specs.Check.{check}
-use Rattle.sheet.specs.Sheet.{Sheet, sheetIn}
+use Rattle.sheet.specs.Sheet.{sheetIn, conjunctsIn}
 use Rattle.class_state.specs.Bytes.{classesBytes}
 use Rattle.join.specs.Join.{JoinSelectivityEstimate, joinSelectivityFromConjuncts}
 use Rattle.edge_fold.specs.Coverages.{coveragesBytes}
@@ -29,9 +29,6 @@ joinBytes j =
     ++ (u16Bytes (length (j .nonNullEqualityColumns)) ++ numbersBytes (j .nonNullEqualityColumns)))))))
 
 -- of the sheet's own conjuncts
-abbrev pub joinOf : Sheet → JoinSelectivityEstimate
-joinOf sheet = joinSelectivityFromConjuncts sheet (sheet .conjuncts)
-
 unfoldable pub joinResult : List ℕ → Result
-unfolding check sheetIn joinSelectivityFromConjuncts joinBytes
-joinResult s = sheetResult (check s) (bytes (joinBytes (joinOf (sheetIn s))))
+unfolding check sheetIn conjunctsIn joinSelectivityFromConjuncts joinBytes
+joinResult s = sheetResult (check s) (bytes (joinBytes (joinSelectivityFromConjuncts (sheetIn s) (conjunctsIn s))))

@@ -12,7 +12,7 @@ use Rattle.record_rules.specs.Fields.{whole}
 use Rattle.sheet.specs.Order.{kindAt, sectionAt, sectionsIn}
 use Rattle.sheet.specs.Rules.{countWithin, countRefusal}
 use Rattle.sheet.specs.Check.{sheetRefusal, check}
-use Rattle.sheet.specs.Sheet.{recordsIn, sheetOf}
+use Rattle.sheet.specs.Sheet.{recordsIn, conjunctsOf, conjunctsIn}
 use Rattle.sheet.specs.declared.Sections.{Sections}
 use Rattle.sheet.specs.declared.Checked.{Checked}
 use Rattle.sheet.specs.declared.Checked.the-variants.{Accepted}
@@ -31,18 +31,23 @@ conjunct-next s start out X i v h k f e =
     let n = records-length Conjuncts u16At s start in
     copied-next (conjunctsAt s start) out X i v (omega arith) k e (f ∙ sym (fixed-record-at Conjuncts u16At s start 2 conjuncts-fixed i 0 h))
 
-pub conjuncts-count : (s : List ℕ) (q : Sections) → u16At s (q .conjuncts) ≡ length (sheetOf s q .conjuncts)
-unfolding sheetOf
+pub conjuncts-count : (s : List ℕ) (q : Sections) → u16At s (q .conjuncts) ≡ length (conjunctsOf s q)
+unfolding conjunctsOf
 conjuncts-count s q = sym (records-length Conjuncts u16At s (q .conjuncts))
 
-pub conjuncts-all : (s : List ℕ) (q : Sections) (out X : List ℕ) (n i : ℕ) → n ≡ u16At s (q .conjuncts) → n ≤ i → X ≡ onto (take i (conjunctsAt s (q .conjuncts))) out → (n ≡ length (sheetOf s q .conjuncts)) × (X ≡ onto (sheetOf s q .conjuncts) out)
-unfolding sheetOf
+pub conjuncts-all : (s : List ℕ) (q : Sections) (out X : List ℕ) (n i : ℕ) → n ≡ u16At s (q .conjuncts) → n ≤ i → X ≡ onto (take i (conjunctsAt s (q .conjuncts))) out → (n ≡ length (conjunctsOf s q)) × (X ≡ onto (conjunctsOf s q) out)
+unfolding conjunctsOf
 conjuncts-all s q out X n i f h e =
     let l = records-length Conjuncts u16At s (q .conjuncts) in
     (f ∙ conjuncts-count s q, e ∙ ap (λ (cs : List ℕ). onto cs out) (take-all i (conjunctsAt s (q .conjuncts)) (omega arith)))
 
+-- those of an accepted sheet, by where its sections stand
+pub own-conjuncts : (s : List ℕ) (c : Checked) (q : Sections) → c ≡ check s → c ≡ Accepted q → conjunctsOf s q ≡ conjunctsIn s
+unfolding conjunctsIn
+own-conjuncts s c q f g = ap (conjunctsOf s) (sym (accepted s q (sym f ∙ g) .1))
+
 -- an accepted sheet has at most 64
-pub accepted-conjuncts : (s : List ℕ) (c : Checked) (q : Sections) → c ≡ check s → c ≡ Accepted q → length (sheetOf s q .conjuncts) ≤ 64
+pub accepted-conjuncts : (s : List ℕ) (c : Checked) (q : Sections) → c ≡ check s → c ≡ Accepted q → length (conjunctsOf s q) ≤ 64
 unfolding sectionsIn countWithin countRefusal
 accepted-conjuncts s c q f g =
     let a = accepted s q (sym f ∙ g) in

@@ -4,7 +4,7 @@ use mathlib.Core.Path.{_≡_, refl, ap, _∙_}
 use mathlib.Core.List.{List, _++_}
 use native.Mathlib.Omega.{arith}
 use lib.Ieee.{Float}
-use lib.ListN.{length, take, drop, length-map}
+use lib.ListN.{length, take, drop}
 use lib.Seq.{length-take-le}
 use Rattle.le.specs.Fields.{fieldBytes, u16Bytes, onto}
 use Rattle.le.specs.Floats.{f64Bytes}
@@ -12,27 +12,10 @@ use Rattle.le.proofs.FieldLaws.{bytes-length}
 use Rattle.le.proofs.OntoLaws.{onto-part}
 use Rattle.estimate.specs.Bytes.{estimateBytes}
 use Rattle.estimate.specs.declared.Estimate.{Estimate}
-use Rattle.number_bytes.specs.Numbers.{numbersBytes}
-use Rattle.number_bytes.proofs.NumberLaws.{numbers-length}
-use Rattle.records.specs.Lists.{tabulate}
-use Rattle.sheet.specs.Sheet.{Sheet}
-use Rattle.class_state.specs.State.{ClassState, columnLimit, returnedRoots, classAtRoot, intoClasses}
-use Rattle.class_state.specs.Bytes.{classesBytes}
-use Rattle.class_state.specs.Sizes.{memberCount, countsSize, classesSize}
-use Rattle.class_state.proofs.SizeLaws.{classes-size}
-use Rattle.class_state.proofs.CountLaws.{counts-size}
 use Rattle.edge_fold.specs.Coverages.{coverageSize}
-use Rattle.join_parts.specs.Parts.{figuresPart, classesPart, coveragesPart, columnsPart}
+use Rattle.join_parts.specs.Parts.{figuresPart, coveragesPart}
 
--- ---- counts
-
--- the size of an answer, by the counts and by the roots that have them
-pub join-sized : (roots counts : List ℕ) (size covered marked : ℕ) → counts ≡ tabulate (memberCount roots) columnLimit → size ≡ 68 + countsSize counts + covered + marked → size ≡ 68 + classesSize roots + covered + marked
-join-sized roots counts size covered marked e s = let k = counts-size roots counts e in omega arith
-
-pub classes-length : (sheet : Sheet) (state : ClassState) → length (intoClasses sheet state) ≡ length (returnedRoots (state .roots))
-unfolding intoClasses
-classes-length sheet state = length-map (returnedRoots (state .roots)) (classAtRoot sheet state)
+-- ---- the parts one after the other
 
 -- a count is put to the front, and what it counts to the front of the part behind it
 pub counted-written : (n m k : ℕ) (bs out X Y : List ℕ) → n ≡ m → 2 ≤ length out → X ≡ onto (u16Bytes n) out → k ≡ length X - 2 → Y ≡ onto bs (take k (drop 2 X))
@@ -40,8 +23,6 @@ pub counted-written : (n m k : ℕ) (bs out X Y : List ℕ) → n ≡ m → 2 �
 counted-written n m k bs out X Y f h x g y =
     onto-part (u16Bytes n) bs out X Y 2 k (bytes-length 2 n) g h x y
     ∙ ap (λ (i : ℕ). onto (u16Bytes i ++ bs) out) f
-
--- ---- the parts one after the other
 
 -- two estimates and a float behind their count, as `put_figures` puts them
 pub figures-joined : (a b : Estimate) (x : Float) → ((u16Bytes 1 ++ estimateBytes a) ++ estimateBytes b) ++ f64Bytes x ≡ figuresPart a b x
@@ -61,14 +42,6 @@ counted-length n m bs e = two (length bs) m e
     two : (a b : ℕ) → a ≡ b → suc (suc a) ≡ 2 + b
     two a b e = omega arith
 
-pub classes-part-length : (sheet : Sheet) (state : ClassState) → length (classesPart (intoClasses sheet state)) ≡ 2 + classesSize (state .roots)
-unfolding classesPart
-classes-part-length sheet state = counted-length (length (intoClasses sheet state)) (classesSize (state .roots)) (classesBytes (intoClasses sheet state)) (classes-size sheet state)
-
 pub coverages-part-length : (n : ℕ) (bytes : List ℕ) → coverageSize * n ≤ length bytes → length (coveragesPart n bytes) ≡ 2 + coverageSize * n
 unfolding coveragesPart
 coverages-part-length n bytes h = counted-length n (coverageSize * n) (take (coverageSize * n) bytes) (length-take-le (coverageSize * n) bytes h)
-
-pub columns-part-length : (columns : List ℕ) → length (columnsPart columns) ≡ 2 + 2 * length columns
-unfolding columnsPart
-columns-part-length columns = counted-length (length columns) (2 * length columns) (numbersBytes columns) (numbers-length columns)

@@ -1,4 +1,4 @@
--- The parts of a join's answer in their order, each after its count. Definitions only.
+-- The parts of a join's answer, each after its count. Definitions only.
 use Prim.Native.Nat.{ℕ, _*_}
 use mathlib.Core.List.{List, _++_}
 use lib.Ieee.{Float}
@@ -8,17 +8,11 @@ use Rattle.le.specs.Floats.{f64Bytes}
 use Rattle.estimate.specs.Bytes.{estimateBytes}
 use Rattle.estimate.specs.declared.Estimate.{Estimate}
 use Rattle.number_bytes.specs.Numbers.{numbersBytes}
-use Rattle.records.specs.Classes.{ColumnEquivalenceClass}
-use Rattle.class_state.specs.Bytes.{classesBytes}
 use Rattle.edge_fold.specs.Coverages.{coverageSize}
 
 unfoldable pub figuresPart : Estimate → Estimate → Float → List ℕ
 unfolding estimateBytes fieldBytes
 figuresPart selectivity matchProbability residual = u16Bytes 1 ++ (estimateBytes selectivity ++ (estimateBytes matchProbability ++ f64Bytes residual))
-
-unfoldable pub classesPart : List ColumnEquivalenceClass → List ℕ
-unfolding fieldBytes classesBytes
-classesPart classes = u16Bytes (length classes) ++ classesBytes classes
 
 -- the first n coverages of those in `bytes`
 unfoldable pub coveragesPart : ℕ → List ℕ → List ℕ
@@ -32,7 +26,3 @@ columnsPart columns = u16Bytes (length columns) ++ numbersBytes columns
 unfoldable pub behindClasses : ℕ → List ℕ → List ℕ → List ℕ
 unfolding coveragesPart columnsPart
 behindClasses n bytes columns = coveragesPart n bytes ++ columnsPart columns
-
-unfoldable pub behindFigures : List ColumnEquivalenceClass → ℕ → List ℕ → List ℕ → List ℕ
-unfolding classesPart behindClasses
-behindFigures classes n bytes columns = classesPart classes ++ behindClasses n bytes columns

@@ -41,10 +41,11 @@ use Rattle.edge.specs.Oriented.{orientedAs, orElseOriented, orientedJoinColumns
 use Rattle.edge.specs.Inputs.{hasNull, nullPairSelectivity, nullMatchProbability, edgeInputs}
 use Rattle.edge.specs.Figures.{disjointEstimate, foreignKeyEstimate, equalNonNull, uniformPairSelectivity, uniformNonNullMatchProbability, orElseFloat, atLeastUniform, overlapEstimate}
 use Rattle.edge.specs.Edge.{unorientedEstimate, basesReferenced, isReference, unlessNullSafe, estimateBySketches, estimateByInputs, orientedEstimate, estimateAs, equalityEdgeEstimate}
+use Rattle.edge.specs.declared.EqualityEdge.{EqualityEdge}
 use Rattle.edge.specs.declared.OrientedColumns.{OrientedColumns}
 use Rattle.edge.specs.declared.OrientedColumns.the-variants.{Absent as NotOriented, Present as Oriented}
 use Rattle.edge.specs.declared.EdgeInputs.{EdgeInputs}
-use Rattle.join_range.specs.Range.{EdgeEstimateInRange}
+use Rattle.join_range.specs.Range.{EdgeInRange, EdgeEstimateInRange}
 use Rattle.join_range.proofs.ClearLaws.{level-from-one}
 use Rattle.join_range.proofs.ProductLaws.{mul-at-least}
 use Rattle.join_range.proofs.ShareLaws.{shared-up-to, shared-below, share-up-to, share-in-unit}
@@ -343,12 +344,17 @@ module _ (sheet : Sheet) (h : LawfulSheet sheet) where
       right-lawful : (column : ℕ) → LawfulFound n (rightProfile sheet column)
       right-lawful column = profile-in-lawful n (sheet .rightRows .value) (h .rightRows .value) column (sheet .rightColumns) (h .rightColumns)
 
-  as-range : (first second : ℕ) (nullSafe : Bool) (firstNdv secondNdv : Float) (columns : OrientedColumns) → LawfulFigure firstNdv → LawfulFigure secondNdv → LawfulOriented n columns → EdgeEstimateInRange (estimateAs sheet first second nullSafe firstNdv secondNdv columns)
-  as-range first second nullSafe firstNdv secondNdv NotOriented f g l = unoriented-range first second
-  as-range first second nullSafe firstNdv secondNdv (Oriented leftColumn rightColumn left right) f g l =
-      let same = eqb leftColumn first in
-      oriented-range leftColumn rightColumn left right nullSafe (cond same firstNdv secondNdv) (cond same secondNdv firstNdv) (l .0) (l .1) (either LawfulFigure same firstNdv secondNdv f g) (either LawfulFigure same secondNdv firstNdv g f)
+  module _ (edge : EqualityEdge) (r : EdgeInRange edge) where
+    as-range : (columns : OrientedColumns) → LawfulOriented n columns → EdgeEstimateInRange (estimateAs sheet edge columns)
+    as-range NotOriented l = unoriented-range (edge .left) (edge .right)
+    as-range (Oriented leftColumn rightColumn left right) l =
+        let same = eqb leftColumn (edge .left) in
+        let leftNdv = edge .«left_ndv» .value in
+        let rightNdv = edge .«right_ndv» .value in
+        let f = r .«left_ndv» .value in
+        let g = r .«right_ndv» .value in
+        oriented-range leftColumn rightColumn left right (edge .«null_safe») (cond same leftNdv rightNdv) (cond same rightNdv leftNdv) (l .0) (l .1) (either LawfulFigure same leftNdv rightNdv f g) (either LawfulFigure same rightNdv leftNdv g f)
 
-  pub edge-estimate-range : (first second : ℕ) (nullSafe : Bool) (firstNdv secondNdv : Float) → LawfulFigure firstNdv → LawfulFigure secondNdv → EdgeEstimateInRange (equalityEdgeEstimate sheet first second nullSafe firstNdv secondNdv)
-  unfolding equalityEdgeEstimate
-  edge-estimate-range first second nullSafe firstNdv secondNdv f g = as-range first second nullSafe firstNdv secondNdv (orientedJoinColumns sheet first second) f g (columns-lawful first second)
+    pub edge-estimate-range : EdgeEstimateInRange (equalityEdgeEstimate sheet edge)
+    unfolding equalityEdgeEstimate
+    edge-estimate-range = as-range (orientedJoinColumns sheet (edge .left) (edge .right)) (columns-lawful (edge .left) (edge .right))

@@ -9,12 +9,14 @@ use Rattle.predicate_range.proofs.NumberRange.{either}
 use Rattle.class_state.specs.State.{equivalent, fromProfiles}
 use Rattle.equality_pairs.specs.Pairs.{EqualityPair}
 use Rattle.equality_pairs.specs.NonNull.{nonNullMarks}
+use Rattle.edge.specs.Edge.{equalityEdgeEstimate}
+use Rattle.edge.specs.declared.EqualityEdge.{EqualityEdge}
 use Rattle.edge.specs.declared.LeftCoverage.{LeftCoverage}
 use Rattle.edge.specs.declared.LeftCoverage.the-variants.{Absent as NoCoverage, Present as Coverage}
 use Rattle.edge.specs.declared.EqualityEdgeEstimate.{EqualityEdgeEstimate}
 use Rattle.edge_fold.specs.Sides.{connectsInputs}
-use Rattle.edge_fold.specs.Edges.{EqualityEdge, equalityEdges}
-use Rattle.edge_fold.specs.Fold.{noEquality, zeroed, multiplied, withEstimate, coverageOf, Folded, edgeEstimate, edgeFigures, edgeCoverages, withEdge, withEdges, foldedPairs}
+use Rattle.edge_fold.specs.Edges.{equalityEdges}
+use Rattle.edge_fold.specs.Fold.{noEquality, zeroed, multiplied, withEstimate, coverageOf, Folded, edgeFigures, edgeCoverages, withEdge, withEdges, foldedPairs}
 use Rattle.edge_fold.specs.declared.fold.EqualityFigures.{EqualityFigures}
 use Rattle.join_range.specs.Range.{EdgeInRange, CoverageInRange, LeftCoverageInRange, EdgeEstimateInRange}
 use Rattle.join_range.proofs.EachLaws.{each-none, each-more, each-first, each-rest, each-append}
@@ -52,48 +54,45 @@ coverage-range NoCoverage c = each-none CoverageInRange
 coverage-range (Coverage x) c = each-more CoverageInRange x [] c (each-none CoverageInRange)
 
 -- ---- the loop
-pub record FoldedInRange (sheet : Sheet) (x : Folded) : Type 0 where
-  pub classes : LawfulState sheet (x .classes)
+pub record FoldedInRange (x : Folded) : Type 0 where
+  pub classes : LawfulState (x .classes)
   pub figures : FiguresInRange (x .figures)
   pub coverages : Each CoverageInRange (x .coverages)
 
 module _ (sheet : Sheet) (h : LawfulSheet sheet) where
   module _ (edge : EqualityEdge) (r : EdgeInRange edge) where
-    edge-range : EdgeEstimateInRange (edgeEstimate sheet edge)
-    edge-range = edge-estimate-range sheet h (edge .left) (edge .right) (edge .nullSafe) (edge .leftNdv .value) (edge .rightNdv .value) (r .leftNdv .value) (r .rightNdv .value)
-
     figures-range : (figures : EqualityFigures) (same : Bool) → FiguresInRange figures → FiguresInRange (edgeFigures sheet figures edge same)
     unfolding edgeFigures
     figures-range figures same f =
-        let estimate = edgeEstimate sheet edge in
-        either FiguresInRange (connectsInputs sheet (edge .left) (edge .right)) (withEstimate figures estimate same) figures (estimate-range figures estimate same f edge-range) f
+        let estimate = equalityEdgeEstimate sheet edge in
+        either FiguresInRange (connectsInputs sheet (edge .left) (edge .right)) (withEstimate figures estimate same) figures (estimate-range figures estimate same f (edge-estimate-range sheet h edge r)) f
 
     coverages-range : (same : Bool) → Each CoverageInRange (edgeCoverages sheet edge same)
     unfolding edgeCoverages
     coverages-range same =
-        let l = coverageOf (edgeEstimate sheet edge .«left_coverage») in
+        let l = coverageOf (equalityEdgeEstimate sheet edge .«left_coverage») in
         let none = each-none CoverageInRange in
-        either (Each CoverageInRange) (connectsInputs sheet (edge .left) (edge .right)) (cond same [] l) [] (either (Each CoverageInRange) same [] l none (coverage-range (edgeEstimate sheet edge .«left_coverage») (edge-range .«left_coverage»))) none
+        either (Each CoverageInRange) (connectsInputs sheet (edge .left) (edge .right)) (cond same [] l) [] (either (Each CoverageInRange) same [] l none (coverage-range (equalityEdgeEstimate sheet edge .«left_coverage») (edge-estimate-range sheet h edge r .«left_coverage»))) none
 
-    with-edge-range : (state : Folded) → FoldedInRange sheet state → FoldedInRange sheet (withEdge sheet state edge)
+    with-edge-range : (state : Folded) → FoldedInRange state → FoldedInRange (withEdge sheet state edge)
     unfolding withEdge
     with-edge-range state f =
         let same = equivalent (state .classes) (edge .left) (edge .right) in
         record {
-          classes = union-lawful sheet h (state .classes) (edge .left) (edge .right) (edge .chosenNdv) (f .classes) (r .chosenNdv);
+          classes = union-lawful (state .classes) (edge .left) (edge .right) (edge .«chosen_ndv») (f .classes) (r .«chosen_ndv»);
           figures = figures-range (state .figures) same (f .figures);
           coverages = each-append CoverageInRange (state .coverages) (edgeCoverages sheet edge same) (f .coverages) (coverages-range same);
         }
 
-  with-edges-range : (state : Folded) (edges : List EqualityEdge) → FoldedInRange sheet state → Each EdgeInRange edges → FoldedInRange sheet (withEdges sheet state edges)
+  with-edges-range : (state : Folded) (edges : List EqualityEdge) → FoldedInRange state → Each EdgeInRange edges → FoldedInRange (withEdges sheet state edges)
   unfolding withEdges
   with-edges-range state [] f e = f
   with-edges-range state (edge ∷ edges) f e = with-edges-range (withEdge sheet state edge) edges (with-edge-range edge (each-first EdgeInRange edge edges e) state f) (each-rest EdgeInRange edge edges e)
 
-  pub folded-range : (pairs : List EqualityPair) → FoldedInRange sheet (foldedPairs sheet pairs)
+  pub folded-range : (pairs : List EqualityPair) → FoldedInRange (foldedPairs sheet pairs)
   unfolding foldedPairs
   folded-range pairs =
       let classes = fromProfiles sheet in
       let s = profiles-lawful sheet h in
-      with-edges-range (record { classes = classes; figures = noEquality; coverages = [] }) (equalityEdges sheet classes (nonNullMarks pairs) pairs)
-      (record { classes = s; figures = record { selectivity = one-unit; «match_probability» = one-unit }; coverages = each-none CoverageInRange }) (edges-range sheet classes s (nonNullMarks pairs) pairs)
+      with-edges-range (record { classes = classes; figures = noEquality; coverages = [] }) (equalityEdges classes (nonNullMarks pairs) pairs)
+      (record { classes = s; figures = record { selectivity = one-unit; «match_probability» = one-unit }; coverages = each-none CoverageInRange }) (edges-range classes s (nonNullMarks pairs) pairs)

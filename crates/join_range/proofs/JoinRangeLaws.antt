@@ -9,24 +9,24 @@ use Rattle.float.specs.Order.{f64Zero, f64Max, ordinary, Unit01}
 use Rattle.float.proofs.UnitLaws.{zero-unit, mul-unit}
 use Rattle.le.proofs.FieldLaws.{Bytes}
 use Rattle.sheet.specs.Check.{sheetRefusal}
-use Rattle.sheet.specs.Sheet.{Sheet, sheetIn}
+use Rattle.sheet.specs.Sheet.{Sheet, sheetIn, conjunctsIn}
 use Rattle.lawful.specs.Lawful.{Each, LawfulSheet}
 use Rattle.lawful.proofs.LawfulLaws.{accepted-sheet}
 use Rattle.units.proofs.SizeLaws.{nonneg-ordinary, clamped-up-to}
 use Rattle.units.proofs.FigureLaws.{figure-up-to}
 use Rattle.units.proofs.UnitOperations.{nonneg-not-below, le-not-lt}
 use Rattle.fraction_range.proofs.DistinctLaws.{max-right}
-use Rattle.range.specs.Selectivity.{unitEstimate}
 use Rattle.predicate_range.specs.Range.{BoundedInUnit}
 use Rattle.predicate_range.proofs.NumberRange.{either}
 use Rattle.predicate_range.proofs.LeafRange.{from-zero, unit-bounded}
 use Rattle.class_state.specs.State.{fromProfiles}
 use Rattle.equality_pairs.specs.Pairs.{EqualityPair, equalityPairs}
 use Rattle.equality_pairs.specs.NonNull.{nonNullMarks, markedColumns}
-use Rattle.edge_fold.specs.Edges.{EqualityEdge, equalityEdges}
+use Rattle.edge.specs.declared.EqualityEdge.{EqualityEdge}
+use Rattle.edge_fold.specs.Edges.{equalityEdges}
 use Rattle.edge_fold.specs.Fold.{Folded, foldedPairs}
 use Rattle.join.specs.Residual.{residualMatchProbability, residualSelectivity}
-use Rattle.join.specs.Join.{joinSelectivity, firstMomentUpper, joinMatch, matchEstimate, selectivityEstimate, estimateOf, joinSelectivityFromConjuncts}
+use Rattle.join.specs.Join.{joinSelectivity, firstMomentUpper, joinMatch, matchEstimate, joinEstimate, joinSelectivityFromConjuncts}
 use Rattle.join_range.specs.Range.{EdgeInRange, JoinInRange}
 use Rattle.join_range.proofs.ResidualRange.{residual-unit}
 use Rattle.join_range.proofs.ClassRange.{profiles-lawful, returned-lawful}
@@ -34,11 +34,7 @@ use Rattle.join_range.proofs.EdgesRange.{edges-range}
 use Rattle.join_range.proofs.FoldRange.{FoldedInRange, folded-range}
 use Rattle.join_range.proofs.MatchRange.{own-clamp-unit, rows-part-up-to, residual-match-unit}
 
--- ---- the two estimates
-selectivity-bounded : (x : Float) → Unit01 x → BoundedInUnit (selectivityEstimate x)
-unfolding selectivityEstimate unitEstimate
-selectivity-bounded x u = unit-bounded x u
-
+-- ---- the match
 -- the value of the match is the match itself
 match-own : (match upper : Float) → Unit01 match → Unit01 upper → matchEstimate match upper .value ≡ match
 unfolding matchEstimate
@@ -60,8 +56,8 @@ match-bounded match upper m u =
 
 -- ---- the whole
 module _ (sheet : Sheet) (h : LawfulSheet sheet) where
-  estimate-range : (state : Folded) (residual : Float) (nonNull : List ℕ) → FoldedInRange sheet state → Unit01 residual → JoinInRange (estimateOf sheet state residual nonNull)
-  unfolding estimateOf
+  estimate-range : (state : Folded) (residual : Float) (nonNull : List ℕ) → FoldedInRange state → Unit01 residual → JoinInRange (joinEstimate sheet state residual nonNull)
+  unfolding joinEstimate
   estimate-range state residual nonNull f r =
       let figures = state .figures in
       let rows = sheet .rightRows .value in
@@ -72,10 +68,10 @@ module _ (sheet : Sheet) (h : LawfulSheet sheet) where
       let through = residualMatchProbability (figures .«match_probability») (figures .selectivity) rows residual in
       let m : Unit01 (joinMatch figures rows residual upper) = either Unit01 (figures .«has_cross_input_equality») through upper (residual-match-unit (figures .«match_probability») (figures .selectivity) rows residual (f .figures .«match_probability») (f .figures .selectivity) (h .rightRows .value) r) u in
       record {
-        selectivity = selectivity-bounded selectivity s;
+        selectivity = unit-bounded selectivity s;
         selectivityLower = refl;
         selectivityUpper = refl;
-        equivalenceClasses = returned-lawful sheet (state .classes) (f .classes);
+        equivalenceClasses = returned-lawful (state .classes) (f .classes);
         matchProbability = match-bounded (joinMatch figures rows residual upper) upper m u;
         matchLower = refl;
         leftEqualityCoverages = f .coverages;
@@ -89,15 +85,15 @@ module _ (sheet : Sheet) (h : LawfulSheet sheet) where
       estimate-range (foldedPairs sheet pairs) (residualSelectivity sheet conjuncts) (markedColumns (nonNullMarks pairs)) (folded-range sheet h pairs) (residual-unit sheet h conjuncts)
 
 -- ---- of an accepted sheet
-pub accepted-join : (s : List ℕ) → Bytes s → sheetRefusal s ≡ 0 → JoinInRange (joinSelectivityFromConjuncts (sheetIn s) (sheetIn s .conjuncts))
-accepted-join s b k = lawful-join (sheetIn s) (accepted-sheet s b k) (sheetIn s .conjuncts)
+pub accepted-join : (s : List ℕ) → Bytes s → sheetRefusal s ≡ 0 → JoinInRange (joinSelectivityFromConjuncts (sheetIn s) (conjunctsIn s))
+accepted-join s b k = lawful-join (sheetIn s) (accepted-sheet s b k) (conjunctsIn s)
 
 -- ---- the distincts by which the edges of an accepted sheet are ordered, for any pairs of columns: no NaN and no -0 stands among them
-pub accepted-edges : (s : List ℕ) → Bytes s → sheetRefusal s ≡ 0 → (marks : List Bool) (pairs : List EqualityPair) → Each EdgeInRange (equalityEdges (sheetIn s) (fromProfiles (sheetIn s)) marks pairs)
-accepted-edges s b k marks pairs = edges-range (sheetIn s) (fromProfiles (sheetIn s)) (profiles-lawful (sheetIn s) (accepted-sheet s b k)) marks pairs
+pub accepted-edges : (s : List ℕ) → Bytes s → sheetRefusal s ≡ 0 → (marks : List Bool) (pairs : List EqualityPair) → Each EdgeInRange (equalityEdges (fromProfiles (sheetIn s)) marks pairs)
+accepted-edges s b k marks pairs = edges-range (fromProfiles (sheetIn s)) (profiles-lawful (sheetIn s) (accepted-sheet s b k)) marks pairs
 
 pub accepted-order : (s : List ℕ) → Bytes s → sheetRefusal s ≡ 0 → (marks : List Bool) (pairs : List EqualityPair)
-    → Each (λ (x : EqualityEdge). T (ordinary (x .chosenNdv .value))) (equalityEdges (sheetIn s) (fromProfiles (sheetIn s)) marks pairs)
+    → Each (λ (x : EqualityEdge). T (ordinary (x .«chosen_ndv» .value))) (equalityEdges (fromProfiles (sheetIn s)) marks pairs)
 accepted-order s b k marks pairs x m =
-    let f = accepted-edges s b k marks pairs x m .chosenNdv .value in
-    nonneg-ordinary (x .chosenNdv .value) (figure-up-to (x .chosenNdv .value) f .low)
+    let f = accepted-edges s b k marks pairs x m .«chosen_ndv» .value in
+    nonneg-ordinary (x .«chosen_ndv» .value) (figure-up-to (x .«chosen_ndv» .value) f .low)

@@ -5,23 +5,24 @@ use lib.Dec.{T}
 use lib.Ieee.{le}
 use Rattle.float.specs.Order.{f64Zero, f64One, f64Max, Unit01}
 use Rattle.float.specs.Option.{some}
+use Rattle.estimate.specs.Estimates.{lowerBound, upperBound}
 use Rattle.estimate.specs.Bytes.{LawfulFigure, LawfulEstimate}
 use Rattle.records.specs.Classes.{ColumnEquivalenceClass}
 use Rattle.lawful.specs.Lawful.{Each}
 use Rattle.units.specs.Sizes.{UpTo}
 use Rattle.predicate_range.specs.Range.{BoundedInUnit}
+use Rattle.edge.specs.declared.EqualityEdge.{EqualityEdge}
 use Rattle.edge.specs.declared.LeftEqualityCoverage.{LeftEqualityCoverage}
 use Rattle.edge.specs.declared.LeftCoverage.{LeftCoverage}
 use Rattle.edge.specs.declared.LeftCoverage.the-variants.{Absent as NoCoverage, Present as Coverage}
 use Rattle.edge.specs.declared.EqualityEdgeEstimate.{EqualityEdgeEstimate}
-use Rattle.edge_fold.specs.Edges.{EqualityEdge}
 use Rattle.join.specs.Join.{JoinSelectivityEstimate}
 
 -- ---- an edge: the distincts of its columns' classes, by the larger of which the edges are ordered, are ones that a sheet may hold
 pub record EdgeInRange (x : EqualityEdge) : Type 0 where
-  pub chosenNdv : LawfulEstimate (x .chosenNdv)
-  pub leftNdv : LawfulEstimate (x .leftNdv)
-  pub rightNdv : LawfulEstimate (x .rightNdv)
+  pub «chosen_ndv» : LawfulEstimate (x .«chosen_ndv»)
+  pub «left_ndv» : LawfulEstimate (x .«left_ndv»)
+  pub «right_ndv» : LawfulEstimate (x .«right_ndv»)
 
 -- ---- a coverage: neither the intersection nor the match of the rows that are not null is clamped, and a value that both columns are known to have counts as 1, however small their distincts are
 pub record CoverageInRange (x : LeftEqualityCoverage) : Type 0 where
@@ -52,10 +53,10 @@ ClassInRange x = LawfulEstimate (x .distinct)
 -- ---- the answer
 pub record JoinInRange (x : JoinSelectivityEstimate) : Type 0 where
   pub selectivity : BoundedInUnit (x .selectivity)
-  pub selectivityLower : x .selectivity .lower ≡ some f64Zero
-  pub selectivityUpper : x .selectivity .upper ≡ some f64One
+  pub selectivityLower : lowerBound (x .selectivity) ≡ some f64Zero
+  pub selectivityUpper : upperBound (x .selectivity) ≡ some f64One
   pub equivalenceClasses : Each ClassInRange (x .equivalenceClasses)
   pub matchProbability : BoundedInUnit (x .matchProbability)
-  pub matchLower : x .matchProbability .lower ≡ some f64Zero
+  pub matchLower : lowerBound (x .matchProbability) ≡ some f64Zero
   pub leftEqualityCoverages : Each CoverageInRange (x .leftEqualityCoverages)
   pub residualSelectivity : Unit01 (x .residualSelectivity)

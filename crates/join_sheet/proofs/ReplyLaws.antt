@@ -4,20 +4,20 @@ use mathlib.Core.Path.{_≡_, refl, ap, _∙_}
 use mathlib.Core.List.{List, [], _∷_}
 use native.Mathlib.Omega.{arith}
 use borrow.Author.Tests.{le-leb}
-use lib.Dec.{leb}
 use lib.ListN.{length, length-take}
 use Rattle.io.specs.Counts.{Counts}
 use Rattle.le.specs.Fields.{onto}
 use Rattle.le.proofs.OntoLaws.{onto-length}
 use Rattle.sheet.specs.Check.{check}
-use Rattle.sheet.specs.Sheet.{sheetIn, sheetOf}
+use Rattle.sheet.specs.Sheet.{sheetIn, sheetOf, conjunctsIn, conjunctsOf}
 use Rattle.sheet.specs.declared.Sections.{Sections}
 use Rattle.sheet.specs.declared.Checked.{Checked}
 use Rattle.sheet.specs.declared.Checked.the-variants.{Refused as SheetRefused, Accepted}
 use Rattle.sheet.proofs.AcceptedLaws.{accepted}
+use Rattle.join.specs.Join.{joinSelectivityFromConjuncts}
 use Rattle.answers.specs.Answers.{Result, refusal, bytes, answered, leaves, Comes, sheetResult}
 use Rattle.answers.specs.declared.Answer.the-variants.{Refused, Written}
-use Rattle.join_answer.specs.Join.{joinBytes, joinOf, joinResult}
+use Rattle.join_answer.specs.Join.{joinBytes, joinResult}
 use Rattle.join_parts.proofs.ConjunctLaws.{accepted-conjuncts}
 use Rattle.join_answer.proofs.BoundLaws.{join-within}
 use Rattle.join_sheet.specs.Reply.{replyBytes}
@@ -28,19 +28,19 @@ Small result = (bs : List ℕ) → result ≡ bytes bs → length bs ≤ 65536
 
 -- of an accepted sheet the answer does
 pub reply-fits : (s : List ℕ) → Small (joinResult s)
-unfolding joinResult sheetIn
+unfolding joinResult sheetIn conjunctsIn
 reply-fits s bs e = go (check s) refl e
   where
     within : (a b c : ℕ) → a ≡ b → a ≡ c → b ≤ 5124 → c ≤ 65536
     within a b c e f h = omega arith
 
-    go : (c : Checked) → check s ≡ c → sheetResult c (bytes (joinBytes (joinOf (sheetIn s)))) ≡ bytes bs → length bs ≤ 65536
+    go : (c : Checked) → check s ≡ c → sheetResult c (bytes (joinBytes (joinSelectivityFromConjuncts (sheetIn s) (conjunctsIn s)))) ≡ bytes bs → length bs ≤ 65536
     go (SheetRefused n) p q = let z : _≡_ {A = ℕ} 0 1 = cc in omega arith
     go (Accepted x) p q =
         let a = accepted s x p in
-        let f : joinBytes (joinOf (sheetIn s)) ≡ bs = cc in
-        let h = join-within (sheetOf s x) (accepted-conjuncts s (check s) x refl p) in
-        within _ _ _ (ap (λ (y : Sections). length (joinBytes (joinOf (sheetOf s y)))) (a .1)) (ap length f) h
+        let f : joinBytes (joinSelectivityFromConjuncts (sheetIn s) (conjunctsIn s)) ≡ bs = cc in
+        let h = join-within (sheetOf s x) (conjunctsOf s x) (accepted-conjuncts s (check s) x refl p) in
+        within _ _ _ (ap (λ (y : Sections). length (joinBytes (joinSelectivityFromConjuncts (sheetOf s y) (conjunctsOf s y)))) (a .1)) (ap length f) h
 
 -- ---- what stands in the buffer
 

@@ -26,13 +26,13 @@ use Rattle.expression_rules.proofs.RoomLaws.{conjunct-below}
 use Rattle.sheet.specs.Order.{kindAt, sectionCount, recordAt, sectionAt}
 use Rattle.sheet.specs.Rules.{countWithin, countRefusal, itemsBefore, recordRefusal}
 use Rattle.sheet.specs.Check.{sheetRefusal}
-use Rattle.sheet.specs.Sheet.{recordsIn, sheetIn}
+use Rattle.sheet.specs.Sheet.{recordsIn, sheetIn, conjunctsIn}
 use Rattle.sheet.specs.declared.order.Kind.the-variants.{Rows, Settings, Sketches, Columns, Classes, Expressions, Operands, Conjuncts}
 use Rattle.sheet.proofs.PlaceLaws.{fixed-place, settings-fixed, expressions-fixed}
 use Rattle.sheet.proofs.AcceptedLaws.{accepted-count, accepted-record}
 use Rattle.sheet.proofs.OwnerLaws.{accepted-expression, accepted-runs, accepted-operand}
 use Rattle.sheet.proofs.SheetLaws.{records-length, fixed-record-at}
-use Rattle.lawful.specs.Lawful.{Each, LawfulSettings, LawfulSketch, LawfulProfile, LawfulExpression, LawfulRun, LawfulClass, LawfulSheet}
+use Rattle.lawful.specs.Lawful.{Each, LawfulSettings, LawfulSketch, LawfulProfile, LawfulExpression, LawfulRun, LawfulClass, LawfulSheet, LawfulConjuncts}
 use Rattle.lawful.proofs.EachLaws.{each-record}
 use Rattle.lawful.proofs.RowLaws.{rows-lawful, settings-lawful}
 use Rattle.lawful.proofs.SketchLaws.{sketch-lawful}
@@ -164,6 +164,8 @@ module _ (s : List ℕ) (bytes : Bytes s) (kept : sheetRefusal s ≡ 0) where
     expressions = expressions;
     operandCount = operand-count;
     operands = operands;
-    conjunctCount = conjunct-count s kept;
-    conjuncts = conjuncts;
   }
+
+  pub accepted-conjuncts : LawfulConjuncts (sheetIn s) (conjunctsIn s)
+  unfolding sheetIn conjunctsIn
+  accepted-conjuncts = record { count = conjunct-count s kept; named = conjuncts }

@@ -109,5 +109,8 @@ pub record LawfulSheet (x : Sheet) : Type 0 where
   pub expressions : (e : ℕ) → e < length (x .expressions) → LawfulExpression e (getD (x .expressions) e Other)
   pub operandCount : length (x .operands) ≤ 512
   pub operands : (e : ℕ) → e < length (x .expressions) → (op : NaryOp) (first count : ℕ) → getD (x .expressions) e Other ≡ Nary op first count → LawfulRun (x .operands) e first count
-  pub conjunctCount : length (x .conjuncts) ≤ 64
-  pub conjuncts : Each (λ (e : ℕ). e < length (x .expressions)) (x .conjuncts)
+
+-- the conjuncts of a join on it
+pub record LawfulConjuncts (x : Sheet) (conjuncts : List ℕ) : Type 0 where
+  pub count : length conjuncts ≤ 64
+  pub named : Each (λ (e : ℕ). e < length (x .expressions)) conjuncts

@@ -16,16 +16,17 @@ use Rattle.records.specs.Columns.{columnProfileAt}
 use Rattle.records.specs.Expressions.{unaryOp, binaryOp, naryOp, expressionAt}
 use Rattle.records.specs.declared.expressions.Expression.{Expression}
 use Rattle.records.specs.declared.expressions.Expression.the-variants.{Literal, ColumnRef, Unary, Binary, Nary, Like, Other}
-use Rattle.records.proofs.ListLaws.{tabulate-alike, tabulate-step, tabulate-end}
+use Rattle.records.proofs.ListLaws.{tabulate-alike}
 use Rattle.expression_rules.specs.Operands.{expressionPlace}
 use Rattle.sheet.specs.Sheet.{recordIn, recordsIn, sheetOf}
 use Rattle.sheet.specs.declared.Sections.{Sections}
 use Rattle.sheet.specs.declared.order.Kind.the-variants.{Columns, Expressions, Operands}
 use Rattle.sheet.proofs.PlaceLaws.{columns-fixed, expressions-fixed, operands-fixed, fixed-place}
 use Rattle.sheet.proofs.SheetLaws.{records-length, fixed-record-at}
-use Rattle.lookup.specs.Lookup.{expressionOf, operandIn, operandsOf, profileIn, leftProfile, rightProfile, profileAndRows, placedProfile, PlaceIn, expressionKind}
+use Rattle.lookup.specs.Lookup.{expressionOf, operandIn, operandsOf, profileIn, orElseProfile, leftProfile, rightProfile, profileAndRows, placedProfile, placeFrom, placeIn, profilePlace, expressionKind}
+use Rattle.lookup.specs.declared.profiles.ProfilePlace.{ProfilePlace}
 use Rattle.lookup.specs.declared.profiles.ProfileAndRows.{ProfileAndRows}
-use Rattle.lookup.specs.declared.profiles.ProfileAndRows.the-variants.{Absent, Present}
+use Rattle.lookup.specs.declared.profiles.ProfileAndRows.the-variants.{Present}
 
 -- ---- expressions
 
@@ -96,72 +97,104 @@ operands-from s q first count =
     rest : (first count n m : ℕ) → n ≡ m → min count (n - first) ≡ min (first + count) m - first
     rest first count n m e = omega arith
 
--- ---- columns, where the loop that looks for one stands at the i-th of n
-
-module _ (s : List ℕ) (start : ℕ) (rows : Float) (column : ℕ) where
-  -- those from the i-th on
-  abbrev pub ProfileRest : ℕ → Type 0
-  ProfileRest i = profileIn rows column (tabulateFrom (recordIn Columns columnProfileAt s start) i (u16At s start - i)) ≡ profileIn rows column (recordsIn Columns columnProfileAt s start)
-
-  more : (i : ℕ) → i < u16At s start → ProfileRest i
-      → cond (eqb (u16At s (start + 2 + 98 * i)) column) (Present (columnProfileAt s (start + 2 + 98 * i)) rows) (profileIn rows column (tabulateFrom (recordIn Columns columnProfileAt s start) (i + 1) (u16At s start - (i + 1))))
-      ≡ profileIn rows column (recordsIn Columns columnProfileAt s start)
-  unfolding profileIn columnProfileAt
-  more i h rest =
-      let place = sym (fixed-place Columns 98 columns-fixed s start i) in
-      ap (λ (at : ℕ). cond (eqb (u16At s at) column) (Present (columnProfileAt s at) rows) (profileIn rows column (tabulateFrom (recordIn Columns columnProfileAt s start) (i + 1) (u16At s start - (i + 1))))) place
-      ∙ ap (profileIn rows column) (sym (tabulate-step (recordIn Columns columnProfileAt s start) i (u16At s start) h))
-      ∙ rest
-
-  pub profile-first : ProfileRest 0
-  unfolding recordsIn
-  profile-first = rw (sub-zero (u16At s start)) refl
-
-  pub profile-next : (i : ℕ) → i < u16At s start → (u16At s (start + 2 + 98 * i) ≡ column → ⊥) → ProfileRest i → ProfileRest (i + 1)
-  profile-next i h ne rest =
-      ap (λ (b : Bool). cond b (Present (columnProfileAt s (start + 2 + 98 * i)) rows) (profileIn rows column (tabulateFrom (recordIn Columns columnProfileAt s start) (i + 1) (u16At s start - (i + 1))))) (sym (ne-eqb _ _ ne))
-      ∙ more i h rest
-
-  pub profile-found : (i : ℕ) → i < u16At s start → u16At s (start + 2 + 98 * i) ≡ column → ProfileRest i → Present (columnProfileAt s (start + 2 + 98 * i)) rows ≡ profileIn rows column (recordsIn Columns columnProfileAt s start)
-  profile-found i h e rest =
-      ap (λ (b : Bool). cond b (Present (columnProfileAt s (start + 2 + 98 * i)) rows) (profileIn rows column (tabulateFrom (recordIn Columns columnProfileAt s start) (i + 1) (u16At s start - (i + 1))))) (sym (eq-eqb _ _ e))
-      ∙ more i h rest
-
-  pub profile-none : (i : ℕ) → u16At s start ≤ i → ProfileRest i → Absent ≡ profileIn rows column (recordsIn Columns columnProfileAt s start)
-  unfolding profileIn
-  profile-none i h rest = ap (profileIn rows column) (sym (tabulate-end (recordIn Columns columnProfileAt s start) i (u16At s start) h)) ∙ rest
-
--- ---- the same for every number of rows, by the place that is found
+-- ---- the place of a column's profile, where the loop that looks for it stands at the i-th of n
 
 module _ (s : List ℕ) (start column : ℕ) where
-  abbrev pub PlaceRest : ℕ → Type 0
-  PlaceRest i = (rows : Float) → ProfileRest s start rows column i
+  -- what is found from the i-th on
+  abbrev pub PlaceRest : ℕ → ℕ → Type 0
+  PlaceRest n i = placeFrom s column (start + 2 + 98 * i) (n - i) ≡ placeIn s start column
 
-  pub place-found : (i : ℕ) → i < u16At s start → u16At s (start + 2 + 98 * i) ≡ column → PlaceRest i → PlaceIn s start column (start + 2 + 98 * i)
-  place-found i h e rest rows = rw (ne-eqb (start + 2 + 98 * i) 0 (λ (z : start + 2 + 98 * i ≡ 0). omega arith)) (profile-found s start rows column i h e (rest rows))
+  pub place-first : (n : ℕ) → n ≡ u16At s start → PlaceRest n 0
+  place-first n e = λ k. placeFrom s column (here (start + 2) k) ((sub-zero n ∙ e) k)
+    where
+      here : (a : ℕ) → a + 98 * 0 ≡ a
+      here a = omega arith
 
-  pub place-none : (i : ℕ) → u16At s start ≤ i → PlaceRest i → PlaceIn s start column 0
-  place-none i h rest rows = profile-none s start rows column i h (rest rows)
+  more : (n i : ℕ) → i < n → PlaceRest n i
+      → cond (eqb (u16At s (start + 2 + 98 * i)) column) (start + 2 + 98 * i) (placeFrom s column (start + 2 + 98 * (i + 1)) (n - (i + 1))) ≡ placeIn s start column
+  unfolding placeFrom
+  more n i h rest =
+      ap (λ (at : ℕ). cond (eqb (u16At s (start + 2 + 98 * i)) column) (start + 2 + 98 * i) (placeFrom s column at (n - (i + 1)))) (next (start + 2) i)
+      ∙ ap (placeFrom s column (start + 2 + 98 * i)) (left n i h)
+      ∙ rest
+    where
+      next : (a i : ℕ) → a + 98 * (i + 1) ≡ a + 98 * i + 98
+      next a i = omega arith
 
--- ---- the left side's profile, and the right side's where there is none
+      left : (n i : ℕ) → i < n → suc (n - (i + 1)) ≡ n - i
+      left n i h = omega arith
+
+  pub place-next : (n i : ℕ) → i < n → (u16At s (start + 2 + 98 * i) ≡ column → ⊥) → PlaceRest n i → PlaceRest n (i + 1)
+  place-next n i h ne rest =
+      ap (λ (b : Bool). cond b (start + 2 + 98 * i) (placeFrom s column (start + 2 + 98 * (i + 1)) (n - (i + 1)))) (sym (ne-eqb _ _ ne))
+      ∙ more n i h rest
+
+  pub place-found : (n i : ℕ) → i < n → u16At s (start + 2 + 98 * i) ≡ column → PlaceRest n i → start + 2 + 98 * i ≡ placeIn s start column
+  place-found n i h e rest =
+      ap (λ (b : Bool). cond b (start + 2 + 98 * i) (placeFrom s column (start + 2 + 98 * (i + 1)) (n - (i + 1)))) (sym (eq-eqb _ _ e))
+      ∙ more n i h rest
+
+  pub place-none : (n i : ℕ) → n ≤ i → PlaceRest n i → 0 ≡ placeIn s start column
+  unfolding placeFrom
+  place-none n i h rest = ap (placeFrom s column (start + 2 + 98 * i)) (none n i h) ∙ rest
+    where
+      none : (n i : ℕ) → n ≤ i → 0 ≡ n - i
+      none n i h = omega arith
+
+-- ---- the profile that stands there
+
+module _ (s : List ℕ) (start column : ℕ) (rows : Float) where
+  placed-from : (n i : ℕ) → placedProfile s (placeFrom s column (start + 2 + 98 * i) n) rows ≡ profileIn rows column (tabulateFrom (recordIn Columns columnProfileAt s start) i n)
+  unfolding placeFrom profileIn columnProfileAt tabulateFrom
+  placed-from zero i = refl
+  placed-from (suc n) i =
+      cond-placed (eqb (u16At s (start + 2 + 98 * i)) column)
+      ∙ ap (λ (other : ProfileAndRows). cond (eqb (u16At s (start + 2 + 98 * i)) column) (Present (columnProfileAt s (start + 2 + 98 * i)) rows) other) (ap (λ (at : ℕ). placedProfile s (placeFrom s column at n) rows) (next (start + 2) i) ∙ placed-from n (i + 1))
+      ∙ ap (λ (at : ℕ). cond (eqb (u16At s at) column) (Present (columnProfileAt s at) rows) (profileIn rows column (tabulateFrom (recordIn Columns columnProfileAt s start) (i + 1) n))) (sym (fixed-place Columns 98 columns-fixed s start i))
+    where
+      next : (a i : ℕ) → a + 98 * i + 98 ≡ a + 98 * (i + 1)
+      next a i = omega arith
+
+      cond-placed : (b : Bool) → placedProfile s (cond b (start + 2 + 98 * i) (placeFrom s column (start + 2 + 98 * i + 98) n)) rows ≡ cond b (Present (columnProfileAt s (start + 2 + 98 * i)) rows) (placedProfile s (placeFrom s column (start + 2 + 98 * i + 98) n) rows)
+      cond-placed true = rw (ne-eqb (start + 2 + 98 * i) 0 (λ (z : start + 2 + 98 * i ≡ 0). omega arith)) refl
+      cond-placed false = refl
+
+  placed-in : placedProfile s (placeIn s start column) rows ≡ profileIn rows column (recordsIn Columns columnProfileAt s start)
+  unfolding recordsIn
+  placed-in = ap (λ (at : ℕ). placedProfile s (placeFrom s column at (u16At s start)) rows) (here (start + 2)) ∙ placed-from (u16At s start) 0
+    where
+      here : (a : ℕ) → a ≡ a + 98 * 0
+      here a = omega arith
 
 module _ (s : List ℕ) (q : Sections) (column at : ℕ) (rows : Float) where
-  pub left-is : PlaceIn s (q .«left_columns») column at → rows ≡ sheetOf s q .leftRows .value → placedProfile s at rows ≡ leftProfile (sheetOf s q) column
+  pub left-is : at ≡ placeIn s (q .«left_columns») column → rows ≡ sheetOf s q .leftRows .value → placedProfile s at rows ≡ leftProfile (sheetOf s q) column
   unfolding sheetOf
-  left-is f e = rw e (f _)
+  left-is f e = (λ k. placedProfile s (f k) (e k)) ∙ placed-in s (q .«left_columns») column (sheetOf s q .leftRows .value)
 
-  pub right-is : PlaceIn s (q .«right_columns») column at → rows ≡ sheetOf s q .rightRows .value → placedProfile s at rows ≡ rightProfile (sheetOf s q) column
+  pub right-is : at ≡ placeIn s (q .«right_columns») column → rows ≡ sheetOf s q .rightRows .value → placedProfile s at rows ≡ rightProfile (sheetOf s q) column
   unfolding sheetOf
-  right-is f e = rw e (f _)
+  right-is f e = (λ k. placedProfile s (f k) (e k)) ∙ placed-in s (q .«right_columns») column (sheetOf s q .rightRows .value)
 
-  pub profile-left : PlaceIn s (q .«left_columns») column at → (at ≡ 0 → ⊥) → rows ≡ sheetOf s q .leftRows .value → placedProfile s at rows ≡ profileAndRows (sheetOf s q) column
-  unfolding profileAndRows
-  profile-left f ne e = rw (← left-is f e, ne-eqb at 0 ne) refl
+-- the left side's profile, and the right side's where there is none
+module _ (s : List ℕ) (q : Sections) (column : ℕ) where
+  pub place-left : (at : ℕ) (rows : Float) → at ≡ placeIn s (q .«left_columns») column → (at ≡ 0 → ⊥) → rows ≡ sheetOf s q .leftRows .value → record { at = at; rows = rows } ≡ profilePlace s q column
+  unfolding profilePlace
+  place-left at rows f ne e = rw (← f, ne-eqb at 0 ne, e) refl
 
-pub profile-right : (s : List ℕ) (q : Sections) (column left at : ℕ) (rows : Float) → PlaceIn s (q .«left_columns») column left → left ≡ 0
-    → PlaceIn s (q .«right_columns») column at → rows ≡ sheetOf s q .rightRows .value → placedProfile s at rows ≡ profileAndRows (sheetOf s q) column
-unfolding profileAndRows
-profile-right s q column left at rows f z g e = rw (← left-is s q column left (sheetOf s q .leftRows .value) f refl, z) (right-is s q column at rows g e)
+  pub place-right : (left at : ℕ) (rows : Float) → left ≡ placeIn s (q .«left_columns») column → left ≡ 0 → at ≡ placeIn s (q .«right_columns») column → rows ≡ sheetOf s q .rightRows .value → record { at = at; rows = rows } ≡ profilePlace s q column
+  unfolding profilePlace
+  place-right left at rows f z g e = rw (← f, eq-eqb left 0 z, g, e) refl
+
+  pub placed-profile : (place : ProfilePlace) → place ≡ profilePlace s q column → placedProfile s (place .at) (place .rows) ≡ profileAndRows (sheetOf s q) column
+  unfolding profilePlace profileAndRows
+  placed-profile place is = ap (λ (p : ProfilePlace). placedProfile s (p .at) (p .rows)) is ∙ go (placeIn s (q .«left_columns») column) (eqb (placeIn s (q .«left_columns») column) 0) refl refl
+    where
+      chosen : ℕ → Bool → ProfilePlace
+      chosen left none = cond none (record { at = placeIn s (q .«right_columns») column; rows = sheetOf s q .rightRows .value }) (record { at = left; rows = sheetOf s q .leftRows .value })
+
+      go : (left : ℕ) (none : Bool) → left ≡ placeIn s (q .«left_columns») column → eqb left 0 ≡ none → placedProfile s (chosen left none .at) (chosen left none .rows) ≡ orElseProfile (leftProfile (sheetOf s q) column) (rightProfile (sheetOf s q) column)
+      go left true f z = rw (← left-is s q column left (sheetOf s q .leftRows .value) f refl, z) (right-is s q column _ _ refl refl)
+      go left false f z = rw (← left-is s q column left (sheetOf s q .leftRows .value) f refl, z) refl
 
 -- ---- expressions by their kinds
 

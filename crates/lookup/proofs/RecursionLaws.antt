@@ -31,7 +31,3 @@ module _ {ℓ} {A : Type ℓ} (make : (ℕ → A) → ℕ → A) (other : ℕ �
       let ne : o ≡ e → ⊥ = omega arith in
       let l : e ≤ o = omega arith in
       rw (below, ne-eqb o e ne) (below-not e o l)
-
-  pub by-number : (e : ℕ) → make (below make other e) e ≡ byNumber make other e
-  unfolding byNumber
-  by-number e = refl

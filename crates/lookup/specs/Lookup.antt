@@ -1,6 +1,5 @@
 -- What a figure looks up in a sheet. Definitions only.
-use Prim.Native.Nat.{ℕ, _+_, _*_}
-use mathlib.Core.Path.{_≡_}
+use Prim.Native.Nat.{ℕ, zero, suc, _+_, _*_}
 use mathlib.Core.Bool.{cond}
 use mathlib.Core.List.{List, [], _∷_}
 use lib.Dec.{eqb, ltb}
@@ -12,9 +11,9 @@ use Rattle.records.specs.declared.columns.ColumnProfile.{ColumnProfile}
 use Rattle.records.specs.declared.expressions.Expression.{Expression}
 use Rattle.records.specs.declared.expressions.Expression.the-variants.{Other}
 use Rattle.expression_rules.specs.Operands.{expressionPlace}
-use Rattle.sheet.specs.Sheet.{Sheet, recordsIn}
+use Rattle.sheet.specs.Sheet.{Sheet, sheetOf}
 use Rattle.sheet.specs.declared.Sections.{Sections}
-use Rattle.sheet.specs.declared.order.Kind.the-variants.{Columns}
+use Rattle.lookup.specs.declared.profiles.ProfilePlace.{ProfilePlace}
 use Rattle.lookup.specs.declared.profiles.ProfileAndRows.{ProfileAndRows}
 use Rattle.lookup.specs.declared.profiles.ProfileAndRows.the-variants.{Absent, Present}
 
@@ -60,9 +59,22 @@ profileAndRows sheet column = orElseProfile (leftProfile sheet column) (rightPro
 abbrev pub placedProfile : List ℕ → ℕ → Float → ProfileAndRows
 placedProfile s at rows = cond (eqb at 0) Absent (Present (columnProfileAt s at) rows)
 
--- the place stands for a column's profile in the list of a side whose count stands at `start`, whatever its rows
-abbrev pub PlaceIn : List ℕ → ℕ → ℕ → ℕ → Type 0
-PlaceIn s start column at = (rows : Float) → placedProfile s at rows ≡ profileIn rows column (recordsIn Columns columnProfileAt s start)
+-- the first with this column of n profiles, the first of which stands at `at`; 0 where there is none
+unfoldable pub placeFrom : List ℕ → ℕ → ℕ → ℕ → ℕ
+placeFrom s column at zero = 0
+placeFrom s column at (suc n) = cond (eqb (u16At s at) column) at (placeFrom s column (at + 98) n)
+
+-- in the list of a side whose count stands at `start`
+abbrev pub placeIn : List ℕ → ℕ → ℕ → ℕ
+placeIn s start column = placeFrom s column (start + 2) (u16At s start)
+
+-- the left side's before the right side's; the right side's rows stand beside a 0 too
+unfoldable pub profilePlace : List ℕ → Sections → ℕ → ProfilePlace
+unfolding placeFrom sheetOf
+profilePlace s q column =
+    cond (eqb (placeIn s (q .«left_columns») column) 0)
+    (record { at = placeIn s (q .«right_columns») column; rows = sheetOf s q .rightRows .value })
+    (record { at = placeIn s (q .«left_columns») column; rows = sheetOf s q .leftRows .value })
 
 -- the byte that tells an expression's kind; where there is no such expression, that of any other one
 abbrev pub expressionKind : List ℕ → Sections → ℕ → ℕ

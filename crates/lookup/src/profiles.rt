@@ -3,7 +3,7 @@ ghost use mathlib.Core.Path.{_≡_};
 ghost use Prim.Native.Nat.{_<_, _^_};
 ghost use Rattle.records.specs.Columns.{columnProfileAt};
 ghost use Rattle.sheet.specs.Sheet.{sheetOf};
-ghost use Rattle.lookup.specs.Lookup.{leftProfile, rightProfile, profileAndRows, placedProfile, PlaceIn};
+ghost use Rattle.lookup.specs.Lookup.{leftProfile, rightProfile, profileAndRows, placedProfile, placeIn, profilePlace};
 use le::floats::f64_at;
 use le::reads::u16_at;
 use records::columns::ColumnProfile;
@@ -38,7 +38,7 @@ pub fn right_rows(s: &[u8], q: Sections) -> f64
 // Where the first profile of a column stands, 0 where there is none. The columns' count stands at
 // `start`.
 fn place_in(s: &[u8], start: u16, column: u16) -> usize
-    ensures { λ r. ⌜ PlaceIn (now (s .entry)) start column r × (r < 2 ^ 40) ⌝ }
+    ensures { λ r. ⌜ (r ≡ placeIn (now (s .entry)) start column) × (r < 2 ^ 40) ⌝ }
 {
     let n = u16_at(s, start as usize) as usize;
     let mut i: usize = 0;
@@ -53,7 +53,7 @@ fn place_in(s: &[u8], start: u16, column: u16) -> usize
 }
 
 pub fn profile_place(s: &[u8], q: Sections, column: u16) -> ProfilePlace
-    ensures { λ r. ⌜ (placedProfile (now (s .entry)) (r .at) (r .rows) ≡ profileAndRows (sheetOf (now (s .entry)) q) column) × (r .at < 2 ^ 40) ⌝ }
+    ensures { λ r. ⌜ (r ≡ profilePlace (now (s .entry)) q column) × (r .at < 2 ^ 40) ⌝ }
 {
     let left = place_in(s, q.left_columns, column);
     if left != 0 {

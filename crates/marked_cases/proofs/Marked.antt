@@ -5,6 +5,8 @@ use lib.Ieee.{round, ofInt, add, sub, mul, div, neg, lt, le, eq}
 use Rattle.power.specs.Power.{power}
 use Rattle.interval.specs.Intersection.{estimatedDistinctIntersection}
 use Rattle.predicate.specs.Predicate.{filterSelectivityForPredicate}
+use Rattle.equality_pairs.specs.Pairs.{equalityPairs}
+use Rattle.edge_fold.specs.Fold.{foldedPairs}
 use Rattle.join.specs.Join.{joinSelectivityFromConjuncts}
 use Rattle.join.specs.Residual.{residualConditionalFanout}
 use Rattle.marked_cases.specs.Table.{Case, Value, table}
@@ -16,5 +18,5 @@ abbrev statedIn : Case → Value
 statedIn c = c .stated
 
 pub marked : map givenIn table ≡ map statedIn table
-unfolding joinSelectivityFromConjuncts filterSelectivityForPredicate estimatedDistinctIntersection residualConditionalFanout power round ofInt add sub mul div neg lt le eq
+unfolding joinSelectivityFromConjuncts equalityPairs foldedPairs filterSelectivityForPredicate estimatedDistinctIntersection residualConditionalFanout power round ofInt add sub mul div neg lt le eq
 marked = refl

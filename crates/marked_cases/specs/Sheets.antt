@@ -8,6 +8,7 @@ use Rattle.float.specs.Option.{none}
 use Rattle.scalar.specs.declared.Scalar.the-variants.{Int32}
 use Rattle.scalar.specs.declared.Bound.{Bound}
 use Rattle.scalar.specs.declared.Bound.the-variants.{Absent, Present}
+use Rattle.estimate.specs.Estimates.{estimateOf}
 use Rattle.estimate.specs.declared.Estimate.{Estimate}
 use Rattle.estimate.specs.declared.EstimateSource.the-variants.{Catalog}
 use Rattle.records.specs.declared.columns.BaseColumn.the-variants.{Absent as NoBase}
@@ -21,7 +22,7 @@ use Rattle.sheet.specs.Sheet.{Sheet}
 
 -- m times 2 to the e, of source 1, without bounds
 abbrev pub plain : ℕ → ℕ → Estimate
-plain m e = record { value = fin false m (pos e); lower = none; upper = none; source = Catalog }
+plain m e = estimateOf (fin false m (pos e)) none none Catalog
 
 abbrev pub profile : ℕ → Bound → Bound → Estimate → Estimate → ColumnProfile
 profile column lower upper frequency distinct = record {
@@ -37,9 +38,9 @@ profile column lower upper frequency distinct = record {
 abbrev pub int32 : ℕ → Bound
 int32 n = Present (Int32 (pos n))
 
--- 100 rows and 50, the default settings, a left and a right column; columns 1 to 3 are expressions 0 to 2, and those that are conjuncts come behind them
-abbrev pub sheetWith : ColumnProfile → ColumnProfile → List Expression → List ℕ → List ℕ → Sheet
-sheetWith left right expressions operands conjuncts = record {
+-- 100 rows and 50, the default settings, a left and a right column; columns 1 to 3 are expressions 0 to 2, and a join's conjuncts come behind them
+abbrev pub sheetWith : ColumnProfile → ColumnProfile → List Expression → List ℕ → Sheet
+sheetWith left right expressions operands = record {
   leftRows = plain 25 2;
   rightRows = plain 25 1;
   settings = record {
@@ -58,7 +59,6 @@ sheetWith left right expressions operands conjuncts = record {
   rightClasses = [];
   expressions = ColumnRef 1 ∷ ColumnRef 2 ∷ ColumnRef 3 ∷ expressions;
   operands = operands;
-  conjuncts = conjuncts;
 }
 
 -- left column 1: frequency 100, distinct 10; right column 2: frequency 50, distinct 25
@@ -70,19 +70,19 @@ right = profile 2 Absent Absent (plain 25 1) (plain 25 0)
 
 -- 1 = 2
 abbrev pub equality : Sheet
-equality = sheetWith left right (Binary Eq 0 1 ∷ []) [] (3 ∷ [])
+equality = sheetWith left right (Binary Eq 0 1 ∷ []) []
 
 -- and a conjunct of kind 6
 abbrev pub residual : Sheet
-residual = sheetWith left right (Binary Eq 0 1 ∷ Other ∷ []) [] (3 ∷ 4 ∷ [])
+residual = sheetWith left right (Binary Eq 0 1 ∷ Other ∷ []) []
 
 -- frequencies 75 and 25, distincts 8 and 4, null-safe
 abbrev pub nullSafe : Sheet
-nullSafe = sheetWith (profile 1 Absent Absent (plain 75 0) (plain 1 3)) (profile 2 Absent Absent (plain 25 0) (plain 1 2)) (Binary IsNotDistinctFrom 0 1 ∷ []) [] (3 ∷ [])
+nullSafe = sheetWith (profile 1 Absent Absent (plain 75 0) (plain 1 3)) (profile 2 Absent Absent (plain 25 0) (plain 1 2)) (Binary IsNotDistinctFrom 0 1 ∷ []) []
 
 -- bounds 0..9 and 10..19
 abbrev pub disjoint : Sheet
-disjoint = sheetWith (profile 1 (int32 0) (int32 9) (plain 25 2) (plain 5 1)) (profile 2 (int32 10) (int32 19) (plain 25 1) (plain 25 0)) (Binary Eq 0 1 ∷ []) [] (3 ∷ [])
+disjoint = sheetWith (profile 1 (int32 0) (int32 9) (plain 25 2) (plain 5 1)) (profile 2 (int32 10) (int32 19) (plain 25 1) (plain 25 0)) (Binary Eq 0 1 ∷ []) []
 
 -- bounds 0..9 and 9..19, distincts 4 and 4
 abbrev pub touchingLeft : ColumnProfile
@@ -93,16 +93,16 @@ touchingRight = profile 2 (int32 9) (int32 19) (plain 25 1) (plain 1 2)
 
 -- 1 = 2 and 2 null-safe 3
 abbrev pub chain : Sheet
-chain = sheetWith left right (Binary Eq 0 1 ∷ Binary IsNotDistinctFrom 1 2 ∷ []) [] (3 ∷ 4 ∷ [])
+chain = sheetWith left right (Binary Eq 0 1 ∷ Binary IsNotDistinctFrom 1 2 ∷ []) []
 
 -- 1 = 1 alone
 abbrev pub selfEquality : Sheet
-selfEquality = sheetWith left right (Binary Eq 0 0 ∷ []) [] (3 ∷ [])
+selfEquality = sheetWith left right (Binary Eq 0 0 ∷ []) []
 
 -- frequency 75: expressions 3 and 4 are column 1 equal to itself, ordinary and null-safe
 abbrev pub itself : Sheet
-itself = sheetWith (profile 1 Absent Absent (plain 75 0) (plain 5 1)) right (Binary Eq 0 0 ∷ Binary IsNotDistinctFrom 0 0 ∷ []) [] []
+itself = sheetWith (profile 1 Absent Absent (plain 75 0) (plain 5 1)) right (Binary Eq 0 0 ∷ Binary IsNotDistinctFrom 0 0 ∷ []) []
 
 -- expression 5 is an Or of two of kind 6, 6 an empty And, 7 an empty Or
 abbrev pub logical : Sheet
-logical = sheetWith left right (Other ∷ Other ∷ Nary Or 0 2 ∷ Nary And 2 0 ∷ Nary Or 2 0 ∷ []) (3 ∷ 4 ∷ []) []
+logical = sheetWith left right (Other ∷ Other ∷ Nary Or 0 2 ∷ Nary And 2 0 ∷ Nary Or 2 0 ∷ []) (3 ∷ 4 ∷ [])

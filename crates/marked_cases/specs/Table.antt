@@ -10,7 +10,10 @@ use Rattle.records.specs.Classes.{ColumnEquivalenceClass}
 use Rattle.sheet.specs.Sheet.{Sheet}
 use Rattle.interval.specs.Intersection.{estimatedDistinctIntersection}
 use Rattle.predicate.specs.Predicate.{filterSelectivityForPredicate}
-use Rattle.join.specs.Join.{JoinSelectivityEstimate, joinSelectivityFromConjuncts}
+use Rattle.equality_pairs.specs.Pairs.{equalityPairs}
+use Rattle.edge_fold.specs.Fold.{foldedPairs}
+use Rattle.edge_fold.specs.declared.fold.EqualityFigures.{EqualityFigures}
+use Rattle.join.specs.Join.{joinSelectivityFromConjuncts}
 use Rattle.join.specs.Residual.{residualConditionalFanout}
 use Rattle.marked_cases.specs.Sheets.{plain, equality, residual, nullSafe, disjoint, touchingLeft, touchingRight, chain, selfEquality, itself, logical}
 
@@ -27,27 +30,34 @@ infix 10 _is_
 abbrev pub _is_ : Value → Value → Case
 given is stated = record { given = given; stated = stated }
 
-abbrev join : Sheet → JoinSelectivityEstimate
-join sheet = joinSelectivityFromConjuncts sheet (sheet .conjuncts)
+-- the conjunct of a join of one, and those of a join of two
+abbrev pub one : List ℕ
+one = 3 ∷ []
 
-abbrev pub selectivity : Sheet → Value
-selectivity sheet = number (join sheet .selectivity .value)
+abbrev pub two : List ℕ
+two = 3 ∷ 4 ∷ []
 
-abbrev pub match : Sheet → Value
-match sheet = number (join sheet .matchProbability .value)
+abbrev pub selectivity : Sheet → List ℕ → Value
+selectivity sheet conjuncts = number (joinSelectivityFromConjuncts sheet conjuncts .selectivity .value)
 
-abbrev pub returned : Sheet → Value
-returned sheet = classes (join sheet .equivalenceClasses)
+abbrev pub match : Sheet → List ℕ → Value
+match sheet conjuncts = number (joinSelectivityFromConjuncts sheet conjuncts .matchProbability .value)
 
-abbrev pub nonNull : Sheet → Value
-nonNull sheet = columns (join sheet .nonNullEqualityColumns)
+abbrev pub returned : Sheet → List ℕ → Value
+returned sheet conjuncts = classes (joinSelectivityFromConjuncts sheet conjuncts .equivalenceClasses)
+
+abbrev pub nonNull : Sheet → List ℕ → Value
+nonNull sheet conjuncts = columns (joinSelectivityFromConjuncts sheet conjuncts .nonNullEqualityColumns)
 
 abbrev pub predicate : Sheet → ℕ → Value
 predicate sheet e = number (filterSelectivityForPredicate sheet e .value)
 
--- of the right rows that a left row meets by the equality of `equality`
-abbrev pub fanout : Value
-fanout = number (residualConditionalFanout (join equality .matchProbability .value) (join equality .selectivity .value) (equality .rightRows .value))
+-- of the right rows that a left row meets by the equalities of a join
+abbrev pub fanout : Sheet → List ℕ → Value
+fanout sheet conjuncts = number (residualConditionalFanout (figures .«match_probability») (figures .selectivity) (sheet .rightRows .value))
+  where
+    figures : EqualityFigures
+    figures = foldedPairs sheet (equalityPairs sheet conjuncts) .figures
 
 -- of the values that the touching columns share
 abbrev pub intersection : Value
@@ -60,20 +70,20 @@ part n k = fin false n (negsuc (k - 1))
 abbrev pub table : List Case
 table =
     (number (round binary64 false 1 25) is number (part 5764607523034235 57))
-    ∷ (selectivity equality is number (part 5764607523034235 57))
-    ∷ (match equality is number f64One)
-    ∷ (returned equality is classes (record { columns = 1 ∷ 2 ∷ []; distinct = plain 5 1 } ∷ []))
-    ∷ (fanout is number (fin false 1 (pos 1)))
-    ∷ (match residual is number (part 7 4))
-    ∷ (selectivity nullSafe is number (part 11 6))
-    ∷ (match nullSafe is number (part 5 3))
-    ∷ (selectivity disjoint is number f64Zero)
-    ∷ (match disjoint is number f64Zero)
+    ∷ (selectivity equality one is number (part 5764607523034235 57))
+    ∷ (match equality one is number f64One)
+    ∷ (returned equality one is classes (record { columns = 1 ∷ 2 ∷ []; distinct = plain 5 1 } ∷ []))
+    ∷ (fanout residual two is number (fin false 1 (pos 1)))
+    ∷ (match residual two is number (part 7 4))
+    ∷ (selectivity nullSafe one is number (part 11 6))
+    ∷ (match nullSafe one is number (part 5 3))
+    ∷ (selectivity disjoint one is number f64Zero)
+    ∷ (match disjoint one is number f64Zero)
     ∷ (intersection is number f64One)
-    ∷ (nonNull chain is columns (1 ∷ 2 ∷ 3 ∷ []))
-    ∷ (returned selfEquality is classes [])
-    ∷ (nonNull selfEquality is columns (1 ∷ []))
-    ∷ (selectivity selfEquality is number f64One)
+    ∷ (nonNull chain two is columns (1 ∷ 2 ∷ 3 ∷ []))
+    ∷ (returned selfEquality one is classes [])
+    ∷ (nonNull selfEquality one is columns (1 ∷ []))
+    ∷ (selectivity selfEquality one is number f64One)
     ∷ (predicate itself 3 is number (part 3 2))
     ∷ (predicate itself 4 is number f64One)
     ∷ (predicate logical 5 is number (part 7 4))

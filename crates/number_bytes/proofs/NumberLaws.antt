@@ -19,14 +19,3 @@ pub numbers-append : (a b : List ℕ) → numbersBytes (a ++ b) ≡ numbersBytes
 unfolding numbersBytes fieldBytes
 numbers-append [] b = refl
 numbers-append (n ∷ ns) b = ap (λ (l : List ℕ). u16Bytes n ++ l) (numbers-append ns b)
-
--- two bytes hold a number up to its remainder
-pub short-bytes : (n : ℕ) → u16Bytes (n % 65536) ≡ u16Bytes n
-unfolding fieldBytes
-short-bytes n = rw (low n, high n) refl
-  where
-    low : (n : ℕ) → n % 65536 % 256 ≡ n % 256
-    low n = omega arith
-
-    high : (n : ℕ) → n % 65536 / 256 % 256 ≡ n / 256 % 256
-    high n = omega arith

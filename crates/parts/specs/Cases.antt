@@ -4,8 +4,7 @@ use lib.IntN.{pos}
 use Rattle.scalar.specs.declared.Scalar.the-variants.{Int32}
 use Rattle.records.specs.declared.expressions.BinaryOp.the-variants.{Eq, IsNotDistinctFrom, Lt, Gt}
 use Rattle.records.specs.declared.expressions.Expression.the-variants.{Literal, ColumnRef}
-use Rattle.parts.specs.Parts.{columnLiteral, columnEqualityFromParts}
-use Rattle.parts.specs.declared.literals.ColumnLiteral.the-variants.{Present as Pair}
+use Rattle.parts.specs.Parts.{Pair, columnLiteral, columnEqualityFromParts}
 use Rattle.parts.specs.declared.equalities.ColumnEquality.the-variants.{Absent, Present}
 
 -- 5 < column 3 is column 3 > 5

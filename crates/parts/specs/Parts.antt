@@ -1,21 +1,21 @@
 -- What the sides of a binary expression are: `column_ref`, `column_literal`, `column_equality` and `column_equality_from_parts` of the source's analysis.rs. Definitions only.
-use Prim.Native.Nat.{ℕ}
-use mathlib.Core.Bool.{Bool, true, false, cond}
+use Prim.Native.Nat.{ℕ, _+_}
+use mathlib.Core.Bool.{Bool, true, false, cond, _&&_}
 use mathlib.Core.List.{List}
 use lib.Dec.{eqb}
+use Rattle.le.specs.Fields.{u16At}
+use Rattle.scalar.specs.declared.Scalar.{Scalar}
 use Rattle.scalar_bytes.specs.Reading.{scalarAt}
 use Rattle.records.specs.declared.expressions.BinaryOp.{BinaryOp}
 use Rattle.records.specs.declared.expressions.BinaryOp.the-variants.{Eq, IsNotDistinctFrom, NotEq, Lt, LtEq, Gt, GtEq, Add, Subtract, Multiply, Divide}
 use Rattle.records.specs.declared.expressions.Expression.{Expression}
 use Rattle.records.specs.declared.expressions.Expression.the-variants.{Literal, ColumnRef, Unary, Binary, Nary, Like, Other}
+use Rattle.expression_rules.specs.Operands.{expressionPlace}
 use Rattle.sheet.specs.Sheet.{Sheet}
-use Rattle.lookup.specs.Lookup.{expressionOf}
+use Rattle.sheet.specs.declared.Sections.{Sections}
+use Rattle.lookup.specs.Lookup.{expressionOf, expressionKind}
 use Rattle.parts.specs.declared.OptionColumn.{OptionColumn}
 use Rattle.parts.specs.declared.OptionColumn.the-variants.{Absent as NoColumn, Present as Column}
-use Rattle.parts.specs.declared.literals.OptionLiteral.{OptionLiteral}
-use Rattle.parts.specs.declared.literals.OptionLiteral.the-variants.{Absent as NoLiteral, Present as Value}
-use Rattle.parts.specs.declared.literals.ColumnLiteral.{ColumnLiteral}
-use Rattle.parts.specs.declared.literals.ColumnLiteral.the-variants.{Absent as NoPair, Present as Pair}
 use Rattle.parts.specs.declared.literals.PlacedLiteral.{PlacedLiteral}
 use Rattle.parts.specs.declared.equalities.ColumnEquality.{ColumnEquality}
 use Rattle.parts.specs.declared.equalities.ColumnEquality.the-variants.{Absent, Present}
@@ -28,6 +28,10 @@ columnRef (Binary op left right) = NoColumn
 columnRef (Nary op first count) = NoColumn
 columnRef Like = NoColumn
 columnRef Other = NoColumn
+
+pub data OptionLiteral : Type 0 where
+  NoLiteral : OptionLiteral
+  Value : Scalar → OptionLiteral
 
 abbrev pub literalOf : Expression → OptionLiteral
 literalOf (Literal value) = Value value
@@ -54,6 +58,11 @@ reversed Subtract = Subtract
 reversed Multiply = Multiply
 reversed Divide = Divide
 
+-- a column, the literal beside it, and the operator as it stands when the column comes first
+pub data ColumnLiteral : Type 0 where
+  NoPair : ColumnLiteral
+  Pair : ℕ → Scalar → BinaryOp → ColumnLiteral
+
 abbrev pub columnBeside : BinaryOp → OptionColumn → OptionLiteral → ColumnLiteral
 columnBeside op NoColumn literal = NoPair
 columnBeside op (Column column) NoLiteral = NoPair
@@ -68,9 +77,23 @@ unfoldable pub columnLiteral : BinaryOp → Expression → Expression → Column
 columnLiteral op left right =
     orElseReversed (columnBeside op (columnRef left) (literalOf right)) (columnBeside (reversed op) (columnRef right) (literalOf left))
 
+-- ---- by where the literal stands in the bytes
+
 -- the pair that a place stands for: at 0 there is none
 abbrev pub placedLiteral : List ℕ → PlacedLiteral → ColumnLiteral
 placedLiteral s p = cond (eqb (p .at) 0) NoPair (Pair (p .column) (scalarAt s (p .at)) (p .op))
+
+-- of a column's expression and a literal's; where one of them is not, the place is 0 and so is the column
+unfoldable pub columnBesidePlace : List ℕ → Sections → BinaryOp → ℕ → ℕ → PlacedLiteral
+columnBesidePlace s q op column literal =
+    cond (eqb (expressionKind s q column) 1 && eqb (expressionKind s q literal) 0)
+    (record { column = u16At s (expressionPlace (q .expressions) column + 2); at = expressionPlace (q .expressions) literal + 6; op = op })
+    (record { column = 0; at = 0; op = op })
+
+-- a literal on the left leaves only the right side for the column
+unfoldable pub columnLiteralPlace : List ℕ → Sections → BinaryOp → ℕ → ℕ → PlacedLiteral
+unfolding columnBesidePlace
+columnLiteralPlace s q op left right = cond (eqb (expressionKind s q left) 0) (columnBesidePlace s q (reversed op) right left) (columnBesidePlace s q op left right)
 
 -- ---- two columns
 

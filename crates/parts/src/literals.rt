@@ -2,32 +2,15 @@
 ghost use mathlib.Core.Path.{_≡_};
 ghost use Prim.Native.Nat.{_+_, _<_, _^_};
 ghost use Rattle.expression_rules.specs.Operands.{expressionPlace};
-ghost use Rattle.sheet.specs.Sheet.{sheetOf};
-ghost use Rattle.lookup.specs.Lookup.{expressionOf};
-ghost use Rattle.parts.specs.Parts.{columnRef, literalOf, reversed, columnBeside, columnLiteral, placedLiteral};
+ghost use Rattle.parts.specs.Parts.{reversed, columnBesidePlace, columnLiteralPlace};
 use le::reads::u16_at;
 use lookup::numbers::expression_kind;
 use lookup::numbers::expression_place;
 use records::expressions::BinaryOp;
-use scalar::Scalar;
 use sheet::Sections;
 
-pub enum OptionLiteral {
-    Absent,
-    Present(Scalar),
-}
-
-// A column beside a literal, with the operator as it stands when the column comes first.
-pub enum ColumnLiteral {
-    Absent,
-    Present {
-        column: u16,
-        literal: Scalar,
-        op: BinaryOp,
-    },
-}
-
-// The same by where the literal stands in the sheet: 0 where there is no such pair.
+// A column beside a literal, by where the literal stands in the sheet: 0 where there is no such pair.
+// The operator is as it stands when the column comes first.
 pub struct PlacedLiteral {
     pub column: u16,
     pub at: usize,
@@ -62,7 +45,7 @@ fn literal_place(q: Sections, e: u16) -> usize
 
 // Of two expressions by their numbers.
 fn column_beside(s: &[u8], q: Sections, op: BinaryOp, column: u16, literal: u16) -> PlacedLiteral
-    ensures { λ r. ⌜ (placedLiteral (now (s .entry)) r ≡ columnBeside op (columnRef (expressionOf (sheetOf (now (s .entry)) q) column)) (literalOf (expressionOf (sheetOf (now (s .entry)) q) literal))) × (r .at < 2 ^ 40) ⌝ }
+    ensures { λ r. ⌜ (r ≡ columnBesidePlace (now (s .entry)) q op column literal) × (r .at < 2 ^ 40) ⌝ }
 {
     if expression_kind(s, q, column) != 1 {
         return PlacedLiteral {
@@ -86,7 +69,7 @@ fn column_beside(s: &[u8], q: Sections, op: BinaryOp, column: u16, literal: u16)
 }
 
 pub fn column_literal(s: &[u8], q: Sections, op: BinaryOp, left: u16, right: u16) -> PlacedLiteral
-    ensures { λ r. ⌜ (placedLiteral (now (s .entry)) r ≡ columnLiteral op (expressionOf (sheetOf (now (s .entry)) q) left) (expressionOf (sheetOf (now (s .entry)) q) right)) × (r .at < 2 ^ 40) ⌝ }
+    ensures { λ r. ⌜ (r ≡ columnLiteralPlace (now (s .entry)) q op left right) × (r .at < 2 ^ 40) ⌝ }
 {
     if expression_kind(s, q, left) == 0 {
         let turned = reversed(op);

@@ -11,8 +11,10 @@ use Rattle.scalar.specs.Order.{scalarOrder}
 use Rattle.scalar.specs.Number.{scalarToF64}
 use Rattle.scalar.specs.declared.order.ScalarOrdering.{ScalarOrdering}
 use Rattle.scalar.specs.declared.order.ScalarOrdering.the-variants.{Less, Equal, Greater, Unordered}
+use Rattle.scalar.specs.declared.Scalar.{Scalar}
 use Rattle.scalar_bytes.specs.Reading.{scalarAt}
-use Rattle.estimate.specs.Estimates.{derived, maxByValue, minByValue}
+use Rattle.scalar_bytes.specs.Encoding.{scalarBytes}
+use Rattle.estimate.specs.Estimates.{lowerBound, upperBound, derived, maxByValue, minByValue}
 use Rattle.estimate.specs.Bytes.{estimateAt, estimateBytes}
 use Rattle.estimate.specs.declared.Estimate.{Estimate}
 use Rattle.records.specs.Columns.{columnProfileAt}
@@ -51,6 +53,14 @@ piecesHasNumber value = scalarToF64 (scalarAt value 0) .present
 unfoldable pub piecesNumber : List ℕ → Float
 piecesNumber value = scalarToF64 (scalarAt value 0) .number
 
+-- how many bytes are written: a scalar's, where there is room
+unfoldable pub scalarWritten : List ℕ → ℕ
+scalarWritten out = cond (leb 19 (length out)) 19 0
+
+-- the scalar's bytes in front, where there is room
+unfoldable pub withScalar : Scalar → List ℕ → List ℕ
+withScalar x out = cond (leb 19 (length out)) (onto (scalarBytes x) out) out
+
 -- the fraction of four scalars, one behind the other
 unfoldable pub piecesFraction : List ℕ → IntervalFraction
 piecesFraction scalars = scalarIntervalFraction (scalarAt scalars 0) (scalarAt scalars 19) (scalarAt scalars 38) (scalarAt scalars 57)
@@ -78,7 +88,7 @@ unfoldable pub piecesMinByValue : List ℕ → List ℕ → Estimate
 piecesMinByValue left right = minByValue (estimateAt left 0) (estimateAt right 0)
 
 unfoldable pub piecesDerived : List ℕ → Estimate
-piecesDerived value = let e = estimateAt value 0 in derived (e .value) (e .lower) (e .upper)
+piecesDerived value = let e = estimateAt value 0 in derived (e .value) (lowerBound e) (upperBound e)
 
 -- how many bytes are written: an estimate's, where there is room
 unfoldable pub written : List ℕ → ℕ

@@ -6,7 +6,7 @@ ghost use Rattle.power.specs.Power.{power};
 ghost use Rattle.root.specs.Root.{root};
 ghost use Rattle.scalar.specs.Number.{scalarToF64};
 ghost use Rattle.scalar_bytes.specs.Reading.{scalarAt};
-ghost use Rattle.pieces.specs.Pieces.{orderNumber, piecesCheck, piecesScalarOrder, piecesHasNumber, piecesNumber, piecesFraction, isFraction, fractionNumber, piecesIntersection, piecesMaxByValue, piecesMinByValue, piecesDerived, written, withEstimate};
+ghost use Rattle.pieces.specs.Pieces.{orderNumber, piecesCheck, piecesScalarOrder, piecesHasNumber, piecesNumber, scalarWritten, withScalar, piecesFraction, isFraction, fractionNumber, piecesIntersection, piecesMaxByValue, piecesMinByValue, piecesDerived, written, withEstimate};
 use estimate::Estimate;
 use estimate::bytes::estimate_at;
 use estimate::bytes::put_estimate;
@@ -20,6 +20,7 @@ use records::columns::column_profile_at;
 use scalar::order::ScalarOrdering;
 use scalar::order::scalar_order;
 use scalar_bytes::reads::scalar_at;
+use scalar_bytes::writes::put_scalar;
 use sheet::Checked;
 
 // The number of the rule that refuses the sheet, or 0.
@@ -75,6 +76,21 @@ pub extern "C" fn pieces_number(value: &[u8]) -> f64
 {
     let number = number_of(value);
     number.number
+}
+
+// Writes what `EncodedScalarValue::from_scalar` makes of a scalar of 19 bytes, and zeros behind it, to
+// the front of out and answers 19. For a Null, of which it makes nothing, that is 19 zeros. Where out
+// has no room for them it writes nothing and answers 0.
+#[no_mangle]
+pub extern "C" fn pieces_from_scalar(value: &[u8], out: &mut [u8]) -> u64
+    ensures { λ r. ⌜ r ≡ scalarWritten (now (out .entry)) ⌝ }
+    ensures { λ _. ⌜ now (out .exit) ≡ withScalar (scalarAt (now (value .entry)) 0) (now (out .entry)) ⌝ }
+{
+    if out.len() < 19 {
+        return 0;
+    }
+    put_scalar(out, scalar_at(value, 0));
+    19
 }
 
 fn fraction_of(scalars: &[u8]) -> IntervalFraction
@@ -194,7 +210,10 @@ pub extern "C" fn pieces_derived(value: &[u8], out: &mut [u8]) -> u64
     ensures { λ _. ⌜ now (out .exit) ≡ withEstimate (piecesDerived (now (value .entry))) (now (out .entry)) ⌝ }
 {
     let e = estimate_at(value, 0);
-    write_estimate(out, Estimate::derived(e.value, e.lower, e.upper))
+    write_estimate(
+        out,
+        Estimate::derived(e.value, Estimate::lower_bound(e), Estimate::upper_bound(e)),
+    )
 }
 
 #[no_mangle]

@@ -8,6 +8,7 @@ use lib.Ieee.{Float, fin, binary64, round, lt, le, eq, sub, add, mul, div, neg}
 use Rattle.float.specs.Order.{f64Zero, f64One}
 use Rattle.float.specs.Option.{some, none}
 use Rattle.scalar.specs.declared.Bound.the-variants.{Absent}
+use Rattle.estimate.specs.Estimates.{estimateOf}
 use Rattle.estimate.specs.declared.Estimate.{Estimate}
 use Rattle.estimate.specs.declared.EstimateSource.the-variants.{Catalog, Derived}
 use Rattle.records.specs.declared.columns.BaseColumn.the-variants.{Absent as NoBase}
@@ -19,7 +20,7 @@ use Rattle.sheet.specs.Sheet.{Sheet}
 use Rattle.predicate.specs.Predicate.{filterSelectivityForPredicate}
 
 abbrev plain : ℕ → ℕ → Estimate
-plain m e = record { value = fin false m (pos e); lower = none; upper = none; source = Catalog }
+plain m e = estimateOf (fin false m (pos e)) none none Catalog
 
 -- column 1 of 100 rows is not null in 75, and the settings are the default ones
 abbrev sheet : Sheet
@@ -50,12 +51,11 @@ sheet = record {
   rightClasses = [];
   expressions = ColumnRef 1 ∷ Binary Eq 0 0 ∷ Binary IsNotDistinctFrom 0 0 ∷ Other ∷ Other ∷ Nary Or 0 2 ∷ Nary And 2 0 ∷ Nary Or 2 0 ∷ Nary And 2 2 ∷ Nary And 4 2 ∷ [];
   operands = 3 ∷ 4 ∷ 1 ∷ 3 ∷ 8 ∷ 4 ∷ [];
-  conjuncts = [];
 }
 
 -- derived, with the bounds 0 and 1
 abbrev within : Float → Estimate
-within value = record { value = value; lower = some f64Zero; upper = some f64One; source = Derived }
+within value = estimateOf value (some f64Zero) (some f64One) Derived
 
 -- the column equal to itself: 0.75
 itself : filterSelectivityForPredicate sheet 1 ≡ within (fin false 3 (negsuc 1))

@@ -18,6 +18,8 @@ use Rattle.lookup.specs.Recursion.{byNumber}
 use Rattle.range.specs.Selectivity.{unitEstimate, defaultEstimate}
 use Rattle.comparison.specs.Unary.{unarySelectivity}
 use Rattle.comparison.specs.Binary.{binarySelectivity}
+use Rattle.predicate.specs.declared.run.LeafOrRun.{LeafOrRun}
+use Rattle.predicate.specs.declared.run.LeafOrRun.the-variants.{Leaf, Run}
 
 -- ---- a literal
 
@@ -46,27 +48,33 @@ operandFactor Or selected = sub binary64 f64One selected
 
 -- multiplied one after the other, from the first operand on
 unfoldable pub operandProduct : NaryOp → (ℕ → Estimate) → Float → List ℕ → Float
-operandProduct op estimateOf product [] = product
-operandProduct op estimateOf product (o ∷ os) = operandProduct op estimateOf (mul binary64 product (operandFactor op (estimateOf o .value))) os
+operandProduct op below product [] = product
+operandProduct op below product (o ∷ os) = operandProduct op below (mul binary64 product (operandFactor op (below o .value))) os
 
 abbrev pub naryEstimate : NaryOp → Float → Estimate
 naryEstimate And product = unitEstimate product
 naryEstimate Or product = unitEstimate (sub binary64 f64One product)
 
--- ---- any expression, by the estimates of smaller numbers
+-- ---- any expression
 
-abbrev pub estimateOf : Sheet → (ℕ → Estimate) → Expression → Estimate
-estimateOf sheet below (Literal value) = literalEstimate sheet value
-estimateOf sheet below (ColumnRef column) = defaultEstimate sheet
-estimateOf sheet below (Unary op expr) = unarySelectivity sheet op expr
-estimateOf sheet below (Binary op left right) = binarySelectivity sheet op left right
-estimateOf sheet below (Nary op first count) = naryEstimate op (operandProduct op below f64One (operandsOf sheet first count))
-estimateOf sheet below Like = unitEstimate (sheet .settings .«like_selectivity»)
-estimateOf sheet below Other = defaultEstimate sheet
+-- a leaf's own estimate, or the operator and the operands of an And or an Or
+abbrev pub leafOrRun : Sheet → Expression → LeafOrRun
+leafOrRun sheet (Literal value) = Leaf (literalEstimate sheet value)
+leafOrRun sheet (ColumnRef column) = Leaf (defaultEstimate sheet)
+leafOrRun sheet (Unary op expr) = Leaf (unarySelectivity sheet op expr)
+leafOrRun sheet (Binary op left right) = Leaf (binarySelectivity sheet op left right)
+leafOrRun sheet (Nary op first count) = Run op first count
+leafOrRun sheet Like = Leaf (unitEstimate (sheet .settings .«like_selectivity»))
+leafOrRun sheet Other = Leaf (defaultEstimate sheet)
+
+-- by the estimates of smaller numbers
+abbrev pub runEstimate : Sheet → (ℕ → Estimate) → LeafOrRun → Estimate
+runEstimate sheet below (Leaf estimate) = estimate
+runEstimate sheet below (Run op first count) = naryEstimate op (operandProduct op below f64One (operandsOf sheet first count))
 
 unfoldable pub selectivityBy : Sheet → (ℕ → Estimate) → ℕ → Estimate
 unfolding unitEstimate defaultEstimate literalEstimate unarySelectivity binarySelectivity operandProduct
-selectivityBy sheet below e = estimateOf sheet below (expressionOf sheet e)
+selectivityBy sheet below e = runEstimate sheet below (leafOrRun sheet (expressionOf sheet e))
 
 -- a number that is not below an expression's own, which no accepted sheet has as an operand, has the default
 abbrev pub defaultOf : Sheet → ℕ → Estimate

@@ -1,4 +1,4 @@
-// What needs no other expression's estimate, by the place of the expression, and how an operand counts.
+// What needs no operand's estimate.
 ghost use mathlib.Core.Path.{_≡_};
 ghost use Prim.Native.Nat.{_+_, _<_, _^_};
 ghost use Rattle.le.specs.Fields.{byteAt, u16At};
@@ -8,7 +8,7 @@ ghost use Rattle.range.specs.Selectivity.{unitEstimate};
 ghost use Rattle.sheet.specs.Sheet.{sheetOf};
 ghost use Rattle.comparison.specs.Unary.{unarySelectivity};
 ghost use Rattle.comparison.specs.Binary.{binarySelectivity};
-ghost use Rattle.predicate.specs.Predicate.{truthEstimate, literalEstimate, operandFactor, naryEstimate};
+ghost use Rattle.predicate.specs.Predicate.{truthEstimate, literalEstimate};
 use comparison::binary::binary_selectivity;
 use comparison::unary::unary_selectivity;
 use estimate::Estimate;
@@ -17,7 +17,6 @@ use le::reads::byte_at;
 use le::reads::u16_at;
 use range::selectivity::default_estimate;
 use range::selectivity::unit_estimate;
-use records::expressions::NaryOp;
 use records::expressions::binary_op;
 use records::expressions::unary_op;
 use scalar::Scalar;
@@ -94,22 +93,4 @@ pub fn like_estimate(s: &[u8], q: Sections) -> Estimate
     ensures { λ r. ⌜ r ≡ unitEstimate (sheetOf (now (s .entry)) q .settings .«like_selectivity») ⌝ }
 {
     unit_estimate(like_selectivity(s, q))
-}
-
-pub fn operand_factor(op: NaryOp, selected: f64) -> f64
-    ensures { λ r. ⌜ r ≡ operandFactor op selected ⌝ }
-{
-    match op {
-        NaryOp::And => selected,
-        NaryOp::Or => 1.0 - selected,
-    }
-}
-
-pub fn nary_estimate(op: NaryOp, product: f64) -> Estimate
-    ensures { λ r. ⌜ r ≡ naryEstimate op product ⌝ }
-{
-    match op {
-        NaryOp::And => unit_estimate(product),
-        NaryOp::Or => unit_estimate(1.0 - product),
-    }
 }

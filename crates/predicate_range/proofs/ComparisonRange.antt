@@ -31,11 +31,9 @@ use Rattle.lookup.specs.declared.profiles.ProfileAndRows.the-variants.{Absent, 
 use Rattle.sketch.specs.Frequent.{frequentValueSelectivity}
 use Rattle.range.specs.Selectivity.{unitEstimate, defaultEstimate, nonNullFraction}
 use Rattle.range.specs.Range.{rangeSelectivity}
-use Rattle.parts.specs.Parts.{columnRef, isNullSafe, columnLiteral, columnEqualityFromParts}
+use Rattle.parts.specs.Parts.{ColumnLiteral, NoPair, Pair, columnRef, isNullSafe, columnLiteral, columnEqualityFromParts}
 use Rattle.parts.specs.declared.OptionColumn.{OptionColumn}
 use Rattle.parts.specs.declared.OptionColumn.the-variants.{Absent as NoColumn, Present as Column}
-use Rattle.parts.specs.declared.literals.ColumnLiteral.{ColumnLiteral}
-use Rattle.parts.specs.declared.literals.ColumnLiteral.the-variants.{Absent as NoPair, Present as Pair}
 use Rattle.parts.specs.declared.equalities.ColumnEquality.{ColumnEquality}
 use Rattle.parts.specs.declared.equalities.ColumnEquality.the-variants.{Absent as NoEquality, Present as Equality}
 use Rattle.comparison.specs.Literal.{equalityPart, rangePart, comparisonValue, comparisonSelectivity, profileSelectivity, foundSelectivity, literalSelectivity}

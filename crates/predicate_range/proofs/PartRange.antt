@@ -7,13 +7,9 @@ use Rattle.records.specs.declared.expressions.BinaryOp.{BinaryOp}
 use Rattle.records.specs.declared.expressions.Expression.{Expression}
 use Rattle.records.specs.declared.expressions.Expression.the-variants.{Literal, ColumnRef, Unary, Binary, Nary, Like, Other}
 use Rattle.lawful.specs.Lawful.{LawfulExpression}
-use Rattle.parts.specs.Parts.{columnRef, literalOf, reversed, columnBeside, orElseReversed, columnLiteral}
+use Rattle.parts.specs.Parts.{OptionLiteral, NoLiteral, Value, ColumnLiteral, NoPair, Pair, columnRef, literalOf, reversed, columnBeside, orElseReversed, columnLiteral}
 use Rattle.parts.specs.declared.OptionColumn.{OptionColumn}
 use Rattle.parts.specs.declared.OptionColumn.the-variants.{Absent as NoColumn, Present as Column}
-use Rattle.parts.specs.declared.literals.OptionLiteral.{OptionLiteral}
-use Rattle.parts.specs.declared.literals.OptionLiteral.the-variants.{Absent as NoLiteral, Present as Value}
-use Rattle.parts.specs.declared.literals.ColumnLiteral.{ColumnLiteral}
-use Rattle.parts.specs.declared.literals.ColumnLiteral.the-variants.{Absent as NoPair, Present as Pair}
 
 abbrev LawfulOption : OptionLiteral → Type 0
 LawfulOption NoLiteral = Unit {0}

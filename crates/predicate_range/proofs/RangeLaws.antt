@@ -17,7 +17,7 @@ use Rattle.lawful.specs.Lawful.{LawfulSheet}
 use Rattle.lawful.proofs.LawfulLaws.{accepted-sheet}
 use Rattle.units.proofs.UnitOperations.{complement-unit}
 use Rattle.lookup.specs.Lookup.{expressionOf, operandsOf}
-use Rattle.predicate.specs.Predicate.{operandFactor, operandProduct, naryEstimate, estimateOf, selectivityBy, defaultOf, filterSelectivityForPredicate}
+use Rattle.predicate.specs.Predicate.{operandFactor, operandProduct, naryEstimate, leafOrRun, runEstimate, selectivityBy, defaultOf, filterSelectivityForPredicate}
 use Rattle.predicate_range.specs.Range.{PredicateInUnit, BoundedInUnit, PredicateBoundedInUnit}
 use Rattle.predicate_range.proofs.NumberRange.{each-number}
 use Rattle.predicate_range.proofs.LeafRange.{unit-bounded, default-bounded, like-bounded, literal-bounded}
@@ -41,7 +41,7 @@ nary-bounded Or product u = unit-bounded (sub binary64 f64One product) (compleme
 
 -- ---- any expression
 module _ (sheet : Sheet) (h : LawfulSheet sheet) where
-  expression-bounded : (estimates : ℕ → Estimate) → ((o : ℕ) → BoundedInUnit (estimates o)) → (x : Expression) → BoundedInUnit (estimateOf sheet estimates x)
+  expression-bounded : (estimates : ℕ → Estimate) → ((o : ℕ) → BoundedInUnit (estimates o)) → (x : Expression) → BoundedInUnit (runEstimate sheet estimates (leafOrRun sheet x))
   expression-bounded estimates b (Literal value) = literal-bounded sheet h value
   expression-bounded estimates b (ColumnRef column) = default-bounded sheet h
   expression-bounded estimates b (Unary op expr) = unary-bounded sheet h op expr

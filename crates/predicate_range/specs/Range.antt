@@ -16,12 +16,12 @@ PredicateInUnit sheet = (e : ℕ) → Unit01 (filterSelectivityForPredicate shee
 -- both bounds are there, all three figures lie from 0 to 1, and the value lies from the lower bound to the upper
 pub record BoundedInUnit (e : Estimate) : Type 0 where
   pub value : Unit01 (e .value)
-  pub lower : Unit01 (e .lower .number)
-  pub upper : Unit01 (e .upper .number)
-  pub hasLower : e .lower .present ≡ true
-  pub hasUpper : e .upper .present ≡ true
-  pub above : T (le (e .lower .number) (e .value))
-  pub below : T (le (e .value) (e .upper .number))
+  pub lower : Unit01 (e .lower)
+  pub upper : Unit01 (e .upper)
+  pub hasLower : e .«has_lower» ≡ true
+  pub hasUpper : e .«has_upper» ≡ true
+  pub above : T (le (e .lower) (e .value))
+  pub below : T (le (e .value) (e .upper))
 
 abbrev pub PredicateBoundedInUnit : Sheet → Type 0
 PredicateBoundedInUnit sheet = (e : ℕ) → BoundedInUnit (filterSelectivityForPredicate sheet e)

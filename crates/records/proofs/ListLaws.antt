@@ -76,9 +76,6 @@ tabulate-in f n x m =
     let r = from-in f 0 n x m in
     (r .0, r .1, r .2 ∙ ap f (zero-add (r .0)))
 
-pub in-tabulate {ℓ} : {A : Type ℓ} (f : ℕ → A) (n i : ℕ) → i < n → List·Memᴰ (f i) (tabulate f n)
-in-tabulate f n i h = Memᴰ·cast (ap f (sym (zero-add i))) (in-from f 0 n i h)
-
 pub tabulate-alike {ℓ} : {A : Type ℓ} (f g : ℕ → A) (n : ℕ) → ((i : ℕ) → i < n → f i ≡ g i) → tabulate f n ≡ tabulate g n
 tabulate-alike f g n h = from-alike f g 0 n (λ (j : ℕ) (l : j < n). ap f (zero-add j) ∙ h j l ∙ ap g (sym (zero-add j)))
 

@@ -13,6 +13,7 @@ use Rattle.le.specs.Fields.{fieldAt}
 use Rattle.scalar.specs.declared.Scalar.the-variants.{Null, Int32, Int64, Float64, Date32}
 use Rattle.scalar.specs.declared.Bound.the-variants.{Absent, Present}
 use Rattle.scalar_bytes.specs.Reading.{scalarAt}
+use Rattle.estimate.specs.Estimates.{estimateOf}
 use Rattle.estimate.specs.declared.EstimateSource.the-variants.{Catalog, Sketch, Derived}
 use Rattle.records.specs.Lists.{tabulateFrom, tabulate}
 use Rattle.records.specs.Settings.{settingsAt}
@@ -123,8 +124,8 @@ unsketched-read : columnProfileAt unsketched 0 ≡ record {
   base = NoBase;
   lower = Absent;
   upper = Present (Int32 (negsuc 1));
-  frequency = record { value = fin false 25 (pos 2); lower = none; upper = none; source = Catalog };
-  distinct = record { value = fin false 5 (pos 1); lower = none; upper = some (fin false 1 (pos 4)); source = Sketch };
+  frequency = estimateOf (fin false 25 (pos 2)) none none Catalog;
+  distinct = estimateOf (fin false 5 (pos 1)) none (some (fin false 1 (pos 4))) Sketch;
   sketch = NoSketch;
 }
 unfolding columnProfileAt signed fieldAt ofBits
@@ -144,8 +145,8 @@ sketched-read : columnProfileAt (behind sketched) 3 ≡ record {
   base = Base 3 9;
   lower = Present (Float64 (fin true 3 (negsuc 0)));
   upper = Present Null;
-  frequency = record { value = fin false 5 (pos 1); lower = none; upper = some (fin false 1 (pos 4)); source = Sketch };
-  distinct = record { value = fin false 25 (pos 2); lower = none; upper = none; source = Catalog };
+  frequency = estimateOf (fin false 5 (pos 1)) none (some (fin false 1 (pos 4))) Sketch;
+  distinct = estimateOf (fin false 25 (pos 2)) none none Catalog;
   sketch = SketchNo 15;
 }
 unfolding columnProfileAt signed fieldAt ofBits
@@ -162,7 +163,7 @@ threeColumns =
 
 class-read : classAt (behind threeColumns) 3 ≡ record {
   columns = 1 ∷ 5 ∷ 127 ∷ [];
-  distinct = record { value = f64One; lower = some f64Zero; upper = some f64One; source = Derived };
+  distinct = estimateOf f64One (some f64Zero) (some f64One) Derived;
 }
 unfolding classAt tabulateFrom fieldAt ofBits
 class-read = refl

@@ -1,5 +1,6 @@
 pub mod Isqrt
 pub mod Root
 pub mod Digits
+pub mod Guess
 pub mod NearestRoot
 pub mod Cases

@@ -1,8 +1,8 @@
 // The binary digits of a square root, and what their square leaves of the number.
 ghost use mathlib.Core.Path.{_≡_};
-ghost use mathlib.Core.Bool.{true};
 ghost use Prim.Native.Nat.{_+_, _*_, _<_, _≤_, _^_};
 ghost use Rattle.root.specs.Digits.{RootDigits, allDigits};
+ghost use Rattle.root.specs.Guess.{guessed, guess, remainderOf, corrected};
 
 // digits * digits + rest is the number, and rest is at most 2 * digits.
 pub struct Digits {
@@ -53,16 +53,25 @@ fn digit_by_digit(w: u64) -> Digits
     Digits { digits: r, rest }
 }
 
-// A number a little below the root of w * 4^27, by the processor's arithmetic. Nothing is promised
-// of it: `corrected` tests it.
-fn guess(w: u64) -> u64 {
-    let s = std::num::nearest_u64_to_f64(w) * 5.551115123125783e-17;
+// Near the root of w * 4^27 and a little below it, by the processor's arithmetic, where x is the
+// float nearest to w.
+fn guessed(x: f64) -> f64
+    ensures { λ r. ⌜ r ≡ guessed x ⌝ }
+{
+    let s = x * 5.551115123125783e-17;
     let y = 3.0743311272572025
         + s * (-5.69307942682696 + s * (5.861523764356084 - s * 2.247896649133078));
     let e = 1.0 - s * y * y;
     let z = y + y * e * (0.5 + e * (0.375 + e * 0.3125));
     let r = s * z;
-    let g = (r + (s - r * r) * (0.5 * z)) * 18014398509481984.0 - 4.0;
+    (r + (s - r * r) * (0.5 * z)) * 18014398509481984.0 - 4.0
+}
+
+// The same as a whole number. `corrected` tests it.
+fn guess(w: u64) -> u64
+    ensures { λ r. ⌜ r ≡ guess w ⌝ }
+{
+    let g = guessed(std::num::nearest_u64_to_f64(w));
     if -1.0 < g {
         if g < 18446744073709551616.0 {
             return std::num::truncating_f64_to_u64(g);
@@ -79,8 +88,7 @@ struct Remainder {
 
 fn remainder_of(w: u64, g: u64) -> Remainder
     requires { ⌜ (w < 2 ^ 54) × (g < 2 ^ 54) ⌝ }
-    ensures { λ r. ⌜ (r .fits ≡ true → g * g + r .rest ≡ w * 4 ^ 27) ⌝ }
-    ensures { λ r. ⌜ r .rest < 2 ^ 63 ⌝ }
+    ensures { λ r. ⌜ (r ≡ remainderOf w g) × (r .rest < 2 ^ 63) ⌝ }
 {
     let a = g / 0x800_0000;
     let b = g % 0x800_0000;
@@ -136,7 +144,7 @@ struct Attempt {
 
 fn corrected(w: u64, g: u64) -> Attempt
     requires { ⌜ w < 2 ^ 54 ⌝ }
-    ensures { λ r. ⌜ (r .good ≡ true → RootDigits w (r .digits) (r .rest)) ⌝ }
+    ensures { λ r. ⌜ r ≡ corrected w g ⌝ }
 {
     if 0x3f_ffff_ffff_ff00 <= g {
         return Attempt {

@@ -1,5 +1,5 @@
 -- `scalar_to_f64` of the source's analysis.rs. Definitions only.
-use lib.Ieee.{Float, binary64, ofInt, div}
+use lib.Ieee.{binary64, ofInt, div}
 use Rattle.float.specs.Option.{some, none}
 use Rattle.float.specs.Tens.{powerOfTen}
 use Rattle.float.specs.declared.option.OptionF64.{OptionF64}

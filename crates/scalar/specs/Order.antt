@@ -1,16 +1,20 @@
 -- `scalar_order` of the source's catalog.rs: unlike types have no order, and decimals need one precision and scale. Definitions only.
-use Prim.Native.Nat.{ℕ}
 use mathlib.Core.Bool.{Bool, true, false, cond}
-use lib.Dec.{eqb}
 use lib.IntN.{ℤ, pos}
 use lib.Signed.{ltZ}
 use lib.Ieee.{Float, lt, eq}
 use Rattle.float.specs.Integers.{bit}
-use Rattle.float.specs.Order.{f64Zero}
-use Rattle.scalar.specs.Types.{scalarType, sameType}
+use Rattle.scalar.specs.Types.{asBoolean, asInt32, asInt64, asFloat64, asDecimal128, asDate32, asMonthDayNano, asDayTime}
 use Rattle.scalar.specs.declared.Scalar.{Scalar}
 use Rattle.scalar.specs.declared.Scalar.the-variants.{Null, Boolean, Int32, Int64, Float64, Decimal128, Date32, IntervalMonthDayNano, IntervalDayTime}
-use Rattle.scalar.specs.declared.order.ScalarIntegers.{ScalarIntegers}
+use Rattle.scalar.specs.declared.types.IntegerOption.{IntegerOption}
+use Rattle.scalar.specs.declared.types.IntegerOption.the-variants.{NoInteger, Integer}
+use Rattle.scalar.specs.declared.types.FloatOption.{FloatOption}
+use Rattle.scalar.specs.declared.types.FloatOption.the-variants.{NoFloat, FloatNumber}
+use Rattle.scalar.specs.declared.types.MonthDayNanoOption.{MonthDayNanoOption}
+use Rattle.scalar.specs.declared.types.MonthDayNanoOption.the-variants.{NoMonthDayNano, MonthDayNano}
+use Rattle.scalar.specs.declared.types.DayTimeOption.{DayTimeOption}
+use Rattle.scalar.specs.declared.types.DayTimeOption.the-variants.{NoDayTime, DayTime}
 use Rattle.scalar.specs.declared.order.ScalarOrdering.{ScalarOrdering}
 use Rattle.scalar.specs.declared.order.ScalarOrdering.the-variants.{Less, Equal, Greater, Unordered}
 
@@ -28,47 +32,34 @@ orderThen Equal second = second
 orderThen Greater second = Greater
 orderThen Unordered second = Unordered
 
--- the whole numbers of a scalar, in the order in which they are compared; 0 where it has fewer
-abbrev pub oneInteger : ℤ → ScalarIntegers
-oneInteger x = record { first = x; second = pos 0; third = pos 0 }
+-- a number and that of a scalar of its type; a scalar of another type has none
+abbrev pub integerOptionOrder : ℤ → IntegerOption → ScalarOrdering
+integerOptionOrder a NoInteger = Unordered
+integerOptionOrder a (Integer b) = integerOrder a b
 
-unfoldable pub scalarIntegers : Scalar → ScalarIntegers
-scalarIntegers Null = oneInteger (pos 0)
-scalarIntegers (Boolean b) = oneInteger (pos (bit b))
-scalarIntegers (Int32 x) = oneInteger x
-scalarIntegers (Int64 x) = oneInteger x
-scalarIntegers (Float64 x) = oneInteger (pos 0)
-scalarIntegers (Decimal128 value precision scale) = oneInteger value
-scalarIntegers (Date32 x) = oneInteger x
-scalarIntegers (IntervalMonthDayNano months days nanoseconds) = record { first = months; second = days; third = nanoseconds }
-scalarIntegers (IntervalDayTime days milliseconds) = record { first = days; second = milliseconds; third = pos 0 }
+abbrev pub floatOptionOrder : Float → FloatOption → ScalarOrdering
+floatOptionOrder x NoFloat = Unordered
+floatOptionOrder x (FloatNumber y) = floatOrder x y
 
-unfoldable pub integersOrder : ScalarIntegers → ScalarIntegers → ScalarOrdering
-unfolding integerOrder
-integersOrder a b = orderThen (integerOrder (a .first) (b .first)) (orderThen (integerOrder (a .second) (b .second)) (integerOrder (a .third) (b .third)))
+abbrev pub monthDayNanoOrder : ℤ → ℤ → ℤ → MonthDayNanoOption → ScalarOrdering
+monthDayNanoOrder months days nanoseconds NoMonthDayNano = Unordered
+monthDayNanoOrder months days nanoseconds (MonthDayNano m d n) = orderThen (integerOrder months m) (orderThen (integerOrder days d) (integerOrder nanoseconds n))
 
--- the float of a Float64; +0 for the other types
-unfoldable pub scalarFloat : Scalar → Float
-scalarFloat Null = f64Zero
-scalarFloat (Boolean b) = f64Zero
-scalarFloat (Int32 x) = f64Zero
-scalarFloat (Int64 x) = f64Zero
-scalarFloat (Float64 x) = x
-scalarFloat (Decimal128 value precision scale) = f64Zero
-scalarFloat (Date32 x) = f64Zero
-scalarFloat (IntervalMonthDayNano months days nanoseconds) = f64Zero
-scalarFloat (IntervalDayTime days milliseconds) = f64Zero
-
--- two scalars of the type with this tag: Null has no order, Float64 is compared by value, the rest by whole numbers
-unfoldable pub typedOrder : ℕ → Scalar → Scalar → ScalarOrdering
-unfolding scalarIntegers integersOrder scalarFloat floatOrder
-typedOrder tag left right =
-    cond (eqb tag 0) Unordered
-    (cond (eqb tag 4) (floatOrder (scalarFloat left) (scalarFloat right)) (integersOrder (scalarIntegers left) (scalarIntegers right)))
+abbrev pub dayTimeOrder : ℤ → ℤ → DayTimeOption → ScalarOrdering
+dayTimeOrder days milliseconds NoDayTime = Unordered
+dayTimeOrder days milliseconds (DayTime d m) = orderThen (integerOrder days d) (integerOrder milliseconds m)
 
 unfoldable pub scalarOrder : Scalar → Scalar → ScalarOrdering
-unfolding typedOrder scalarType
-scalarOrder left right = cond (sameType (scalarType left) (scalarType right)) (typedOrder (scalarType left .tag) left right) Unordered
+unfolding integerOrder floatOrder
+scalarOrder Null right = Unordered
+scalarOrder (Boolean b) right = integerOptionOrder (pos (bit b)) (asBoolean right)
+scalarOrder (Int32 x) right = integerOptionOrder x (asInt32 right)
+scalarOrder (Int64 x) right = integerOptionOrder x (asInt64 right)
+scalarOrder (Float64 x) right = floatOptionOrder x (asFloat64 right)
+scalarOrder (Decimal128 value precision scale) right = integerOptionOrder value (asDecimal128 precision scale right)
+scalarOrder (Date32 x) right = integerOptionOrder x (asDate32 right)
+scalarOrder (IntervalMonthDayNano months days nanoseconds) right = monthDayNanoOrder months days nanoseconds (asMonthDayNano right)
+scalarOrder (IntervalDayTime days milliseconds) right = dayTimeOrder days milliseconds (asDayTime right)
 
 -- ---- an order that there is, and is this one
 

@@ -1,11 +1,20 @@
 // scalar_order of the source's catalog.rs.
 ghost use mathlib.Core.Path.{_≡_};
-ghost use lib.IntN.{pos};
-ghost use Rattle.float.specs.Integers.{bit};
-ghost use Rattle.scalar.specs.Order.{integerOrder, floatOrder, orderThen, oneInteger, scalarIntegers, integersOrder, scalarFloat, typedOrder, scalarOrder, isLess, isEqual, isGreater};
+ghost use Rattle.scalar.specs.Order.{integerOrder, floatOrder, orderThen, integerOptionOrder, floatOptionOrder, monthDayNanoOrder, dayTimeOrder, scalarOrder, isLess, isEqual, isGreater};
 use crate::Scalar;
-use crate::same_type;
-use crate::scalar_type;
+use crate::types::DayTimeOption;
+use crate::types::FloatOption;
+use crate::types::IntegerOption;
+use crate::types::MonthDayNanoOption;
+use crate::types::as_boolean;
+use crate::types::as_date32;
+use crate::types::as_day_time;
+use crate::types::as_decimal128;
+use crate::types::as_float64;
+use crate::types::as_int32;
+use crate::types::as_int64;
+use crate::types::as_month_day_nano;
+use crate::types::boolean_integer;
 use signed::i32_to_i64;
 
 pub enum ScalarOrdering {
@@ -13,13 +22,6 @@ pub enum ScalarOrdering {
     Equal,
     Greater,
     Unordered,
-}
-
-// The whole numbers of a scalar, in the order in which they are compared; 0 where it has fewer.
-pub struct ScalarIntegers {
-    pub first: i64,
-    pub second: i64,
-    pub third: i64,
 }
 
 fn integer_order(a: i64, b: i64) -> ScalarOrdering
@@ -61,115 +63,87 @@ fn order_then(first: ScalarOrdering, second: ScalarOrdering) -> ScalarOrdering
     }
 }
 
-fn one_integer(x: i64) -> ScalarIntegers
-    ensures { λ r. ⌜ r ≡ oneInteger x ⌝ }
+fn int32_order(a: i32, b: i32) -> ScalarOrdering
+    ensures { λ r. ⌜ r ≡ integerOrder a b ⌝ }
 {
-    ScalarIntegers {
-        first: x,
-        second: 0,
-        third: 0,
+    integer_order(i32_to_i64(a), i32_to_i64(b))
+}
+
+fn integer_option_order(a: i64, right: IntegerOption) -> ScalarOrdering
+    ensures { λ r. ⌜ r ≡ integerOptionOrder a right ⌝ }
+{
+    match right {
+        IntegerOption::NoInteger => ScalarOrdering::Unordered,
+        IntegerOption::Integer(b) => integer_order(a, b),
     }
 }
 
-fn boolean_integer(b: bool) -> i64
-    ensures { λ r. ⌜ r ≡ pos (bit b) ⌝ }
+fn float_option_order(x: f64, right: FloatOption) -> ScalarOrdering
+    ensures { λ r. ⌜ r ≡ floatOptionOrder x right ⌝ }
 {
-    if b { 1 } else { 0 }
-}
-
-pub fn scalar_integers(x: Scalar) -> ScalarIntegers
-    ensures { λ r. ⌜ r ≡ scalarIntegers x ⌝ }
-{
-    match x {
-        Scalar::Null => one_integer(0),
-        Scalar::Boolean(b) => one_integer(boolean_integer(b)),
-        Scalar::Int32(v) => one_integer(i32_to_i64(v)),
-        Scalar::Int64(v) => one_integer(v),
-        Scalar::Float64(_) => one_integer(0),
-        Scalar::Decimal128 {
-            value,
-            precision: _,
-            scale: _,
-        } => one_integer(value),
-        Scalar::Date32(v) => one_integer(i32_to_i64(v)),
-        Scalar::IntervalMonthDayNano {
-            months,
-            days,
-            nanoseconds,
-        } => {
-            ScalarIntegers {
-                first: i32_to_i64(months),
-                second: i32_to_i64(days),
-                third: nanoseconds,
-            }
-        }
-        Scalar::IntervalDayTime { days, milliseconds } => {
-            ScalarIntegers {
-                first: i32_to_i64(days),
-                second: i32_to_i64(milliseconds),
-                third: 0,
-            }
-        }
+    match right {
+        FloatOption::NoFloat => ScalarOrdering::Unordered,
+        FloatOption::FloatNumber(y) => float_order(x, y),
     }
 }
 
-pub fn scalar_float(x: Scalar) -> f64
-    ensures { λ r. ⌜ r ≡ scalarFloat x ⌝ }
+fn month_day_nano_order(
+    months: i32,
+    days: i32,
+    nanoseconds: i64,
+    right: MonthDayNanoOption,
+) -> ScalarOrdering
+    ensures { λ r. ⌜ r ≡ monthDayNanoOrder months days nanoseconds right ⌝ }
 {
-    match x {
-        Scalar::Null => 0.0,
-        Scalar::Boolean(_) => 0.0,
-        Scalar::Int32(_) => 0.0,
-        Scalar::Int64(_) => 0.0,
-        Scalar::Float64(v) => v,
-        Scalar::Decimal128 {
-            value: _,
-            precision: _,
-            scale: _,
-        } => 0.0,
-        Scalar::Date32(_) => 0.0,
-        Scalar::IntervalMonthDayNano {
-            months: _,
-            days: _,
-            nanoseconds: _,
-        } => 0.0,
-        Scalar::IntervalDayTime {
-            days: _,
-            milliseconds: _,
-        } => 0.0,
+    match right {
+        MonthDayNanoOption::NoMonthDayNano => ScalarOrdering::Unordered,
+        MonthDayNanoOption::MonthDayNano {
+            months: m,
+            days: d,
+            nanoseconds: n,
+        } => order_then(
+            int32_order(months, m),
+            order_then(int32_order(days, d), integer_order(nanoseconds, n)),
+        ),
     }
 }
 
-fn integers_order(a: ScalarIntegers, b: ScalarIntegers) -> ScalarOrdering
-    ensures { λ r. ⌜ r ≡ integersOrder a b ⌝ }
+fn day_time_order(days: i32, milliseconds: i32, right: DayTimeOption) -> ScalarOrdering
+    ensures { λ r. ⌜ r ≡ dayTimeOrder days milliseconds right ⌝ }
 {
-    let first = integer_order(a.first, b.first);
-    let second = integer_order(a.second, b.second);
-    let third = integer_order(a.third, b.third);
-    order_then(first, order_then(second, third))
-}
-
-// The order of two scalars of the type with this tag.
-fn typed_order(tag: u8, left: Scalar, right: Scalar) -> ScalarOrdering
-    ensures { λ r. ⌜ r ≡ typedOrder tag left right ⌝ }
-{
-    if tag == 0 {
-        return ScalarOrdering::Unordered;
+    match right {
+        DayTimeOption::NoDayTime => ScalarOrdering::Unordered,
+        DayTimeOption::DayTime {
+            days: d,
+            milliseconds: m,
+        } => order_then(int32_order(days, d), int32_order(milliseconds, m)),
     }
-    if tag == 4 {
-        return float_order(scalar_float(left), scalar_float(right));
-    }
-    integers_order(scalar_integers(left), scalar_integers(right))
 }
 
 pub fn scalar_order(left: Scalar, right: Scalar) -> ScalarOrdering
     ensures { λ r. ⌜ r ≡ scalarOrder left right ⌝ }
 {
-    let kind = scalar_type(left);
-    if same_type(kind, scalar_type(right)) {
-        return typed_order(kind.tag, left, right);
+    match left {
+        Scalar::Null => ScalarOrdering::Unordered,
+        Scalar::Boolean(b) => integer_option_order(boolean_integer(b), as_boolean(right)),
+        Scalar::Int32(v) => integer_option_order(i32_to_i64(v), as_int32(right)),
+        Scalar::Int64(v) => integer_option_order(v, as_int64(right)),
+        Scalar::Float64(v) => float_option_order(v, as_float64(right)),
+        Scalar::Decimal128 {
+            value,
+            precision,
+            scale,
+        } => integer_option_order(value, as_decimal128(precision, scale, right)),
+        Scalar::Date32(v) => integer_option_order(i32_to_i64(v), as_date32(right)),
+        Scalar::IntervalMonthDayNano {
+            months,
+            days,
+            nanoseconds,
+        } => month_day_nano_order(months, days, nanoseconds, as_month_day_nano(right)),
+        Scalar::IntervalDayTime { days, milliseconds } => {
+            day_time_order(days, milliseconds, as_day_time(right))
+        }
     }
-    ScalarOrdering::Unordered
 }
 
 pub fn is_less(order: ScalarOrdering) -> bool

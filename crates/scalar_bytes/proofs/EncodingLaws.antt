@@ -21,7 +21,8 @@ use Rattle.le.specs.Floats.{f64At}
 use Rattle.le.proofs.FieldLaws.{Bytes, FieldsAt, FieldsFit, widths, fieldsBytes, field-below, field-split, u8-sum, fields-length, fields-found, fields-back}
 use Rattle.signed.proofs.SignedLaws.{unsigned-below, unsigned-back, signed-in, signed-back}
 use Rattle.scalar_bytes.proofs.WritingLaws.{extension-below, extended, value-bytes}
-use Rattle.scalar_bytes.specs.Reading.{isBound, isSketch, placeAllows, float64Lawful, signExtended, decimalLawful, scalarLawful, boundAt, readScalar}
+use Rattle.scalar_bytes.proofs.FloatLaws.{lawful-bits}
+use Rattle.scalar_bytes.specs.Reading.{Refused, Lawful, isBound, isSketch, placeAllows, float64Lawful, signExtended, decimalLawful, scalarLawful, boundAt, readScalar}
 use Rattle.scalar_bytes.specs.Encoding.{encodedBytes, extension, scalarBytes, boundBytes, in32, in64, lawfulScalar, lawfulBound}
 use Rattle.scalar.specs.declared.Scalar.{Scalar}
 use Rattle.scalar.specs.declared.Scalar.the-variants.{Null, Boolean, Int32, Int64, Float64, Decimal128, Date32, IntervalMonthDayNano, IntervalDayTime}
@@ -29,7 +30,6 @@ use Rattle.scalar.specs.declared.Bound.{Bound}
 use Rattle.scalar.specs.declared.Bound.the-variants.{Absent, Present}
 use Rattle.scalar_bytes.specs.declared.reads.ScalarPlace.{ScalarPlace}
 use Rattle.scalar_bytes.specs.declared.reads.ScalarPlace.the-variants.{Bound as AtBound}
-use Rattle.scalar_bytes.specs.declared.reads.ReadScalar.the-variants.{Refused, Lawful}
 
 -- ---- the length
 
@@ -110,7 +110,9 @@ written (Present (Boolean true)) h = record { bytes = refl; fit = (lit< tt, (lit
 written (Present (Boolean false)) h = record { bytes = refl; fit = (lit< tt, (lit< tt, (lit< tt, tt))) }
 written (Present (Int32 x)) h = record { bytes = refl; fit = (lit< tt, (below 4 x h, (lit< tt, tt))) }
 written (Present (Int64 x)) h = record { bytes = refl; fit = (lit< tt, (below 8 x h, (lit< tt, tt))) }
-written (Present (Float64 x)) h = record { bytes = refl; fit = (lit< tt, (toBits-lt binary64 x (fits-true x h), (lit< tt, tt))) }
+written (Present (Float64 x)) h =
+    let a = both-true (fits binary64 x) (float64Lawful x) h in
+    record { bytes = rw (lawful-bits x (a .1)) refl; fit = (lit< tt, (toBits-lt binary64 x (fits-true x h), (lit< tt, tt))) }
 written (Present (Decimal128 value precision scale)) h =
     let a = decimal-parts value precision scale h in
     let p : precision ≤ 38 = leb-true precision 38 (a .2) in

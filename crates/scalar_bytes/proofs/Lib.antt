@@ -1,3 +1,4 @@
 pub mod ReadingLaws
 pub mod WritingLaws
+pub mod FloatLaws
 pub mod EncodingLaws

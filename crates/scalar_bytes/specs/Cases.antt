@@ -3,15 +3,14 @@ use mathlib.Core.Path.{_≡_, refl}
 use mathlib.Core.Bool.{true}
 use mathlib.Core.List.{[], _∷_}
 use lib.IntN.{pos, negsuc}
-use lib.Ieee.{fin, ofBits, toBits, le, neg}
+use lib.Ieee.{nan, fin, ofBits, isNan, toBits, eq, le, neg}
 use Rattle.signed.specs.Signed.{signed, unsigned}
 use Rattle.le.specs.Fields.{fieldAt, fieldBytes}
 use Rattle.scalar.specs.declared.Scalar.the-variants.{Null, Boolean, Int32, Int64, Float64, Decimal128, Date32, IntervalMonthDayNano, IntervalDayTime}
 use Rattle.scalar.specs.declared.Bound.the-variants.{Absent, Present}
-use Rattle.scalar_bytes.specs.Reading.{readScalar}
+use Rattle.scalar_bytes.specs.Reading.{Refused, Lawful, readScalar}
 use Rattle.scalar_bytes.specs.Encoding.{encodedBytes, scalarBytes}
 use Rattle.scalar_bytes.specs.declared.reads.ScalarPlace.the-variants.{Literal, Bound as AtBound, Sketch}
-use Rattle.scalar_bytes.specs.declared.reads.ReadScalar.the-variants.{Refused, Lawful}
 
 boolean-written : scalarBytes (Boolean true) ≡ 1 ∷ 1 ∷ 0 ∷ 0 ∷ 0 ∷ 0 ∷ 0 ∷ 0 ∷ 0 ∷ 0 ∷ 0 ∷ 0 ∷ 0 ∷ 0 ∷ 0 ∷ 0 ∷ 0 ∷ 0 ∷ 0 ∷ []
 unfolding encodedBytes fieldBytes unsigned toBits
@@ -38,8 +37,17 @@ unfolding readScalar signed unsigned fieldAt ofBits le neg
 int64-read = refl
 
 float64-written : scalarBytes (Float64 (fin true 3 (negsuc 0))) ≡ 4 ∷ 0 ∷ 0 ∷ 0 ∷ 0 ∷ 0 ∷ 0 ∷ 0xf8 ∷ 0xbf ∷ 0 ∷ 0 ∷ 0 ∷ 0 ∷ 0 ∷ 0 ∷ 0 ∷ 0 ∷ 0 ∷ 0 ∷ []
-unfolding encodedBytes fieldBytes unsigned toBits
+unfolding encodedBytes fieldBytes unsigned eq isNan toBits
 float64-written = refl
+
+-- no sheet holds these two
+minus-zero-written : scalarBytes (Float64 (fin true 0 (pos 0))) ≡ 4 ∷ 0 ∷ 0 ∷ 0 ∷ 0 ∷ 0 ∷ 0 ∷ 0 ∷ 0 ∷ 0 ∷ 0 ∷ 0 ∷ 0 ∷ 0 ∷ 0 ∷ 0 ∷ 0 ∷ 0 ∷ 0 ∷ []
+unfolding encodedBytes fieldBytes unsigned eq isNan toBits
+minus-zero-written = refl
+
+nan-written : scalarBytes (Float64 nan) ≡ 4 ∷ 0 ∷ 0 ∷ 0 ∷ 0 ∷ 0 ∷ 0 ∷ 0xf8 ∷ 0x7f ∷ 0 ∷ 0 ∷ 0 ∷ 0 ∷ 0 ∷ 0 ∷ 0 ∷ 0 ∷ 0 ∷ 0 ∷ []
+unfolding encodedBytes fieldBytes unsigned eq isNan toBits
+nan-written = refl
 
 float64-read : readScalar Literal (4 ∷ 0 ∷ 0 ∷ 0 ∷ 0 ∷ 0 ∷ 0 ∷ 0xf8 ∷ 0xbf ∷ 0 ∷ 0 ∷ 0 ∷ 0 ∷ 0 ∷ 0 ∷ 0 ∷ 0 ∷ 0 ∷ 0 ∷ []) 0 ≡ Lawful (Present (Float64 (fin true 3 (negsuc 0))))
 unfolding readScalar signed unsigned fieldAt ofBits le neg

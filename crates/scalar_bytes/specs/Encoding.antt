@@ -1,17 +1,17 @@
 -- The 19 bytes of a scalar, written (document 01, "The join sheet"): `EncodedScalarValue::from_scalar` of the source's statistics.rs, then zeros. Definitions only.
 use Prim.Native.Nat.{ℕ, _-_, _^_}
-use mathlib.Core.Bool.{Bool, true, _&&_}
+use mathlib.Core.Bool.{Bool, true, cond, _&&_}
 use mathlib.Core.List.{List, [], _∷_, _++_}
 use lib.Dec.{leb, ltb}
 use lib.IntN.{ℤ, pos, negsuc}
 use lib.ListN.{length, replicate}
 use lib.Signed.{mag}
-use lib.Ieee.{binary64, fits}
+use lib.Ieee.{Float, binary64, fits, isNan, toBits, eq}
 use Rattle.float.specs.Integers.{bit}
-use Rattle.le.specs.Fields.{fieldBytes}
+use Rattle.float.specs.Order.{f64Zero}
+use Rattle.le.specs.Fields.{fieldBytes, u64Bytes}
 use Rattle.signed.specs.Signed.{unsigned}
 use Rattle.le.specs.Integers.{i32Bytes, i64Bytes}
-use Rattle.le.specs.Floats.{f64Bytes}
 use Rattle.scalar_bytes.specs.Reading.{float64Lawful}
 use Rattle.scalar.specs.declared.Scalar.{Scalar}
 use Rattle.scalar.specs.declared.Scalar.the-variants.{Null, Boolean, Int32, Int64, Float64, Decimal128, Date32, IntervalMonthDayNano, IntervalDayTime}
@@ -20,13 +20,18 @@ use Rattle.scalar.specs.declared.Bound.the-variants.{Absent, Present}
 
 -- ---- the bytes
 
+-- +0 for either zero, and one pattern for every NaN
+unfoldable pub encodedBits : Float → ℕ
+encodedBits x = cond (eq x f64Zero) 0 (cond (isNan x) 0x7ff8_0000_0000_0000 (toBits binary64 x))
+
 -- Null, which the source leaves out, is its tag
 unfoldable pub encodedBytes : Scalar → List ℕ
+unfolding encodedBits
 encodedBytes Null = 0 ∷ []
 encodedBytes (Boolean b) = 1 ∷ bit b ∷ []
 encodedBytes (Int32 x) = 2 ∷ i32Bytes x
 encodedBytes (Int64 x) = 3 ∷ i64Bytes x
-encodedBytes (Float64 x) = 4 ∷ f64Bytes x
+encodedBytes (Float64 x) = 4 ∷ u64Bytes (encodedBits x)
 encodedBytes (Decimal128 value precision scale) = 5 ∷ precision ∷ scale ∷ fieldBytes 16 (unsigned 16 value)
 encodedBytes (Date32 x) = 6 ∷ i32Bytes x
 encodedBytes (IntervalMonthDayNano months days nanoseconds) = 8 ∷ (i32Bytes months ++ (i32Bytes days ++ i64Bytes nanoseconds))

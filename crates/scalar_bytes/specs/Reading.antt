@@ -10,15 +10,13 @@ use Rattle.le.specs.Fields.{byteAt, fieldAt}
 use Rattle.signed.specs.Signed.{unsigned}
 use Rattle.le.specs.Integers.{i32At, i64At}
 use Rattle.le.specs.Floats.{f64At}
-use Rattle.scalar.specs.Types.{scalarType}
+use Rattle.scalar.specs.Types.{isNull}
 use Rattle.scalar.specs.declared.Scalar.{Scalar}
 use Rattle.scalar.specs.declared.Scalar.the-variants.{Null, Boolean, Int32, Int64, Float64, Decimal128, Date32, IntervalMonthDayNano, IntervalDayTime}
 use Rattle.scalar.specs.declared.Bound.{Bound}
 use Rattle.scalar.specs.declared.Bound.the-variants.{Absent, Present}
 use Rattle.scalar_bytes.specs.declared.reads.ScalarPlace.{ScalarPlace}
 use Rattle.scalar_bytes.specs.declared.reads.ScalarPlace.the-variants.{Literal, Bound as AtBound, Sketch}
-use Rattle.scalar_bytes.specs.declared.reads.ReadScalar.{ReadScalar}
-use Rattle.scalar_bytes.specs.declared.reads.ReadScalar.the-variants.{Refused, Lawful}
 
 -- ---- what stands where
 
@@ -34,9 +32,8 @@ isSketch Sketch = true
 
 -- only a column's bound may be absent, and a sketch holds no Null
 unfoldable pub placeAllows : ScalarPlace → Bound → Bool
-unfolding scalarType
 placeAllows place Absent = isBound place
-placeAllows place (Present x) = not (eqb (scalarType x .tag) 0 && isSketch place)
+placeAllows place (Present x) = not (isNull x && isSketch place)
 
 -- ---- the rules
 
@@ -93,6 +90,10 @@ scalarAt s at =
 unfoldable pub boundAt : List ℕ → ℕ → Bound
 unfolding scalarAt
 boundAt s at = cond (eqb (byteAt s at) 255) Absent (Present (scalarAt s at))
+
+pub data ReadScalar : Type 0 where
+  Refused : ℕ → ReadScalar
+  Lawful : Bound → ReadScalar
 
 -- every 19 bytes, at every place: rule 5, and else what they stand for
 unfoldable pub readScalar : ScalarPlace → List ℕ → ℕ → ReadScalar

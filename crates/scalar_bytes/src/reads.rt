@@ -1,7 +1,7 @@
 // A scalar's 19 bytes, read at any place, and the scalar rules.
 ghost use mathlib.Core.Path.{_≡_};
 ghost use Prim.Native.Nat.{_<_, _^_};
-ghost use Rattle.scalar_bytes.specs.Reading.{zerosAt, float64Lawful, signExtended, decimalLawful, isBound, isSketch, scalarLawful, scalarAt, boundAt, readScalar};
+ghost use Rattle.scalar_bytes.specs.Reading.{zerosAt, float64Lawful, signExtended, decimalLawful, isBound, isSketch, scalarLawful, scalarAt, boundAt};
 use float::ranges::between;
 use float::ranges::zero_or_between;
 use le::floats::f64_at;
@@ -21,11 +21,6 @@ pub enum ScalarPlace {
     Literal,
     Bound,
     Sketch,
-}
-
-pub enum ReadScalar {
-    Refused(u8),
-    Lawful(Bound),
 }
 
 fn is_bound(place: ScalarPlace) -> bool
@@ -187,15 +182,4 @@ pub fn bound_at(s: &[u8], at: usize) -> Bound
         return Bound::Absent;
     }
     Bound::Present(scalar_at(s, at))
-}
-
-// What the 19 bytes at a place stand for there, or refusal 5.
-pub fn read_scalar(place: ScalarPlace, s: &[u8], at: usize) -> ReadScalar
-    requires { ⌜ at < 2 ^ 61 ⌝ }
-    ensures { λ r. ⌜ r ≡ readScalar place (now (s .entry)) at ⌝ }
-{
-    if scalar_lawful(place, s, at) {
-        return ReadScalar::Lawful(bound_at(s, at));
-    }
-    ReadScalar::Refused(5)
 }

@@ -4,13 +4,12 @@ ghost use mathlib.Core.List.{_∷_, _++_, []};
 ghost use Prim.Native.Nat.{_≤_};
 ghost use lib.ListN.{length, replicate};
 ghost use Rattle.float.specs.Integers.{bit};
-ghost use Rattle.le.specs.Fields.{onto, fieldBytes};
+ghost use Rattle.le.specs.Fields.{onto, fieldBytes, u64Bytes};
 ghost use Rattle.signed.specs.Signed.{unsigned};
 ghost use Rattle.le.specs.Integers.{i32Bytes, i64Bytes};
-ghost use Rattle.le.specs.Floats.{f64Bytes};
-ghost use Rattle.scalar_bytes.specs.Encoding.{extension, encodedBytes, padded, scalarBytes, boundBytes};
+ghost use Rattle.scalar_bytes.specs.Encoding.{encodedBits, extension, encodedBytes, padded, scalarBytes, boundBytes};
+use float::bits::bits_of_float;
 use float::integers::one_if;
-use le::floats::put_f64;
 use le::integers::put_i32;
 use le::integers::put_i64;
 use le::writes::put_byte;
@@ -53,12 +52,25 @@ fn put_int64(out: &mut [u8], x: i64)
     put_i64(&mut out[1..], x);
 }
 
+// +0 for either zero, and one pattern for every NaN.
+fn encoded_bits(x: f64) -> u64
+    ensures { λ r. ⌜ r ≡ encodedBits x ⌝ }
+{
+    if x == 0.0 {
+        return 0;
+    }
+    if x == x {
+        return bits_of_float(x);
+    }
+    0x7ff8_0000_0000_0000
+}
+
 fn put_float64(out: &mut [u8], x: f64)
     requires { ⌜ 19 ≤ length (now out) ⌝ }
-    ensures { λ _. ⌜ now (out .exit) ≡ onto (4 ∷ f64Bytes x) (now (out .entry)) ⌝ }
+    ensures { λ _. ⌜ now (out .exit) ≡ onto (4 ∷ u64Bytes (encodedBits x)) (now (out .entry)) ⌝ }
 {
     put_byte(out, 4);
-    put_f64(&mut out[1..], x);
+    put_u64(&mut out[1..], encoded_bits(x));
 }
 
 // The upper eight bytes of a number of 64 bits in sixteen.

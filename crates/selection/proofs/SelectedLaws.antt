@@ -71,14 +71,6 @@ module _ (test : ℕ → Bool) (i n : ℕ) where
   more : i < n → n - i ≡ suc (n - (i + 1))
   more h = omega arith
 
-  pub selected-taken : i < n → test i ≡ true → selected test i (n - i) ≡ i ∷ selected test (i + 1) (n - (i + 1))
-  unfolding selected
-  selected-taken h e = ap (selected test i) (more h) ∙ rw e refl
-
-  pub selected-passed : i < n → test i ≡ false → selected test i (n - i) ≡ selected test (i + 1) (n - (i + 1))
-  unfolding selected
-  selected-passed h e = ap (selected test i) (more h) ∙ rw e refl
-
   pub selected-step : i < n → selected test i (n - i) ≡ oneSelected test i ++ selected test (i + 1) (n - (i + 1))
   unfolding selected
   selected-step h = ap (selected test i) (more h) ∙ go (test i)

@@ -5,7 +5,7 @@ use mathlib.Core.List.{List}
 use native.Mathlib.Omega.{arith}
 use lib.Dec.{leb, eqb}
 use lib.ListN.{length}
-use borrow.Author.Tests.{leb-true, eqb-true}
+use borrow.Author.Tests.{eqb-true}
 use Rattle.le.specs.Fields.{u16At}
 use Rattle.rules.specs.Rules.{ask, orElse, firstRefusal}
 use Rattle.rules.proofs.RuleLaws.{ask-kept, else-first, else-second, each-kept}
@@ -26,10 +26,6 @@ unfolding check
 accepted-back s e = rw e refl
 
 module _ (s : List ℕ) (kept : sheetRefusal s ≡ 0) where
-  pub accepted-length : length s ≤ 65535
-  unfolding sheetRefusal
-  accepted-length = leb-true (length s) 65535 (ask-kept (leb (length s) 65535) 1 (omega arith) (else-first (ask (leb (length s) 65535) 1) _ kept))
-
   rest-kept : orElse (firstRefusal (refusalIn s) 0 sectionCount) (ask (eqb (sectionAt s sectionCount) (length s)) 10) ≡ 0
   unfolding sheetRefusal
   rest-kept = else-second (ask (leb (length s) 65535) 1) _ kept

@@ -9,17 +9,13 @@ use lib.ListN.{getD, set, replicate}
 use Rattle.le.specs.Fields.{u16At}
 use Rattle.sheet.specs.Order.{kindAt, recordEnd, recordAt, sectionAt, sectionsOf, sectionsIn}
 use Rattle.sheet.specs.declared.order.Kind.{Kind}
-use Rattle.sheet.specs.declared.order.Kind.the-variants.{Rows, Settings, Tables, Keys, Columns, Expressions, Operands, Conjuncts}
+use Rattle.sheet.specs.declared.order.Kind.the-variants.{Settings, Tables, Keys, Columns, Expressions, Operands, Conjuncts}
 
 -- ---- sections of records of one size
 
 -- each record of the kind is w bytes long
 abbrev pub Fixed : Kind → ℕ → Type 0
 Fixed kind w = (s : List ℕ) (at : ℕ) → recordEnd kind s at ≡ at + w
-
-pub rows-fixed : Fixed Rows 26
-unfolding recordEnd
-rows-fixed s at = refl
 
 pub settings-fixed : Fixed Settings 8
 unfolding recordEnd

@@ -5,11 +5,11 @@ use mathlib.Core.List.{List}
 use native.Mathlib.Omega.{arith}
 use native.Mathlib.Numerals.{add-one}
 use Rattle.le.specs.Fields.{u16At}
-use Rattle.expression_rules.specs.Operands.{runLength, runsBefore, naryFrom, naryOf}
+use Rattle.expression_rules.specs.Operands.{runLength, runsBefore, naryFrom, naryOf, RunsFollow}
 use Rattle.expression_rules.proofs.RunLaws.{runs-step, owner-next, owner-within}
 use Rattle.sheet.specs.Order.{recordAt}
 use Rattle.sheet.specs.Rules.{itemsBefore, recordRefusal, recordsRefusal}
-use Rattle.sheet.specs.Walk.{ownerBefore, tallyBefore}
+use Rattle.sheet.specs.Walk.{ownerBefore, RunsKnown, tallyBefore}
 use Rattle.sheet.specs.declared.order.Kind.{Kind}
 use Rattle.sheet.specs.declared.order.Kind.the-variants.{Rows, Settings, Sketches, Tables, Keys, Columns, Classes, Expressions, Operands, Conjuncts}
 use Rattle.sheet.proofs.PlaceLaws.{fixed-place, expressions-fixed}
@@ -28,10 +28,10 @@ tally-first Operands s expressions start = refl
 tally-first Conjuncts s expressions start = refl
 
 -- looking on from the owner of the operand before
-owner-of : (s : List ℕ) (expressions i : ℕ) → naryFrom s expressions i (ownerBefore s expressions i) ≡ naryOf s expressions i
+owner-of : (s : List ℕ) (expressions i : ℕ) → RunsFollow s expressions → naryFrom s expressions i (ownerBefore s expressions i) ≡ naryOf s expressions i
 unfolding ownerBefore naryOf
-owner-of s expressions zero = refl
-owner-of s expressions (suc i) = ap (λ (j : ℕ). naryFrom s expressions j (naryOf s expressions i)) (sym (add-one i)) ∙ (owner-next s expressions i ∙ ap (naryOf s expressions) (add-one i))
+owner-of s expressions zero f = refl
+owner-of s expressions (suc i) f = ap (λ (j : ℕ). naryFrom s expressions j (naryOf s expressions i)) (sym (add-one i)) ∙ (owner-next s expressions i f ∙ ap (naryOf s expressions) (add-one i))
 
 owner-before-within : (s : List ℕ) (expressions i : ℕ) → ownerBefore s expressions i ≤ u16At s expressions
 unfolding ownerBefore
@@ -61,15 +61,15 @@ module _ (kind : Kind) (s : List ℕ) (expressions start i t : ℕ) (tally : t �
   unfolding tallyBefore
   expressions-next e at h = rw (e, expressions-tally e, h, e, fixed-place Expressions 25 expressions-fixed s start i) (sym (runs-step s start i))
 
-  pub operands-next : kind ≡ Operands → naryFrom s expressions i t ≡ tallyBefore kind s expressions start (i + 1)
+  pub operands-next : RunsKnown kind s expressions → kind ≡ Operands → naryFrom s expressions i t ≡ tallyBefore kind s expressions start (i + 1)
   unfolding tallyBefore ownerBefore
-  operands-next e = rw (e, operands-tally e, add-one) (owner-of s expressions i)
+  operands-next f e = let g = owner-of s expressions i (f e) in rw (e, operands-tally e, add-one) g
 
   pub operands-within : kind ≡ Operands → t ≤ u16At s expressions
   operands-within e = subst (λ (n : ℕ). n ≤ u16At s expressions) (sym (operands-tally e)) (owner-before-within s expressions i)
 
-  pub operands-owner : kind ≡ Operands → naryFrom s expressions i t ≡ naryOf s expressions i
-  operands-owner e = ap (naryFrom s expressions i) (operands-tally e) ∙ owner-of s expressions i
+  pub operands-owner : RunsKnown kind s expressions → kind ≡ Operands → naryFrom s expressions i t ≡ naryOf s expressions i
+  operands-owner f e = ap (naryFrom s expressions i) (operands-tally e) ∙ owner-of s expressions i (f e)
 
 -- ---- a record at its place
 

@@ -11,6 +11,7 @@ use Rattle.signed.specs.Signed.{signed, unsigned}
 use Rattle.le.specs.Fields.{fieldAt}
 use Rattle.scalar.specs.declared.Scalar.the-variants.{Int32}
 use Rattle.scalar.specs.declared.Bound.the-variants.{Absent, Present}
+use Rattle.estimate.specs.Estimates.{estimateOf}
 use Rattle.estimate.specs.declared.Estimate.{Estimate}
 use Rattle.estimate.specs.declared.EstimateSource.the-variants.{Catalog}
 use Rattle.records.specs.declared.catalog.RowCount.the-variants.{Unknown}
@@ -21,7 +22,7 @@ use Rattle.records.specs.declared.expressions.BinaryOp.the-variants.{Eq}
 use Rattle.records.specs.declared.expressions.NaryOp.the-variants.{And}
 use Rattle.records.specs.declared.expressions.Expression.the-variants.{ColumnRef, Binary, Nary}
 use Rattle.sheet.specs.Check.{check}
-use Rattle.sheet.specs.Sheet.{Sheet, sheetIn}
+use Rattle.sheet.specs.Sheet.{Sheet, sheetIn, conjunctsIn}
 use Rattle.sheet.specs.declared.Checked.the-variants.{Refused, Accepted}
 
 abbrev zeros : ℕ → List ℕ
@@ -120,7 +121,7 @@ unfolding check fieldAt unsigned signed ofBits le neg
 small-accepted = refl
 
 abbrev plain : ℕ → ℕ → Estimate
-plain m e = record { value = fin false m (pos e); lower = none; upper = none; source = Catalog }
+plain m e = estimateOf (fin false m (pos e)) none none Catalog
 
 abbrev smallSheet : Sheet
 smallSheet = record {
@@ -152,12 +153,15 @@ smallSheet = record {
   rightClasses = [];
   expressions = ColumnRef 1 ∷ ColumnRef 2 ∷ Binary Eq 0 1 ∷ Nary And 0 1 ∷ [];
   operands = 2 ∷ [];
-  conjuncts = 3 ∷ 2 ∷ [];
 }
 
 small-read : sheetIn small ≡ smallSheet
 unfolding sheetIn fieldAt signed ofBits
 small-read = refl
+
+small-conjuncts : conjunctsIn small ≡ 3 ∷ 2 ∷ []
+unfolding conjunctsIn fieldAt
+small-conjuncts = refl
 
 -- ---- one byte of it changed
 

@@ -34,7 +34,6 @@ pub record Sheet : Type 0 where
   pub rightClasses : List ColumnEquivalenceClass
   pub expressions : List Expression
   pub operands : List ℕ
-  pub conjuncts : List ℕ
 
 -- record i of the section at `start`
 abbrev pub recordIn {ℓ} : {A : Type ℓ} → Kind → (List ℕ → ℕ → A) → List ℕ → ℕ → ℕ → A
@@ -61,10 +60,18 @@ sheetOf s x = record {
   rightClasses = recordsIn Classes classAt s (x .«right_classes»);
   expressions = recordsIn Expressions expressionAt s (x .expressions);
   operands = recordsIn Operands u16At s (x .operands);
-  conjuncts = recordsIn Conjuncts u16At s (x .conjuncts);
 }
 
 -- every list of bytes, also one that is refused
 unfoldable pub sheetIn : List ℕ → Sheet
 unfolding sheetOf sectionsIn
 sheetIn s = sheetOf s (sectionsIn s)
+
+-- the expressions of a join's own conjuncts, by number: they stand beside the sheet, so that a join can be asked about others
+unfoldable pub conjunctsOf : List ℕ → Sections → List ℕ
+unfolding recordAt recordsIn
+conjunctsOf s x = recordsIn Conjuncts u16At s (x .conjuncts)
+
+unfoldable pub conjunctsIn : List ℕ → List ℕ
+unfolding conjunctsOf sectionsIn
+conjunctsIn s = conjunctsOf s (sectionsIn s)

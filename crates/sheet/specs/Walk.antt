@@ -1,7 +1,8 @@
 -- What a walk over a section's records carries along. Definitions only.
 use Prim.Native.Nat.{ℕ, zero, suc}
+use mathlib.Core.Path.{_≡_}
 use mathlib.Core.List.{List}
-use Rattle.expression_rules.specs.Operands.{runsBefore, naryOf}
+use Rattle.expression_rules.specs.Operands.{runsBefore, naryOf, RunsFollow}
 use Rattle.sheet.specs.Rules.{itemsBefore}
 use Rattle.sheet.specs.declared.order.Kind.{Kind}
 use Rattle.sheet.specs.declared.order.Kind.the-variants.{Rows, Settings, Sketches, Tables, Keys, Columns, Classes, Expressions, Operands, Conjuncts}
@@ -13,6 +14,10 @@ unfoldable pub ownerBefore : List ℕ → ℕ → ℕ → ℕ
 unfolding naryOf
 ownerBefore s expressions zero = 0
 ownerBefore s expressions (suc i) = naryOf s expressions i
+
+-- where operands are judged, the expressions have been: their runs follow each other
+abbrev pub RunsKnown : Kind → List ℕ → ℕ → Type 0
+RunsKnown kind s expressions = kind ≡ Operands → RunsFollow s expressions
 
 -- what record i needs of those before it: of sketches the items, of expressions the operands, of operands the last owner
 unfoldable pub tallyBefore : Kind → List ℕ → ℕ → ℕ → ℕ → ℕ

@@ -6,7 +6,7 @@ ghost use Rattle.le.specs.Fields.{u16At};
 ghost use Rattle.rules.specs.Rules.{firstRefusal};
 ghost use Rattle.sheet.specs.Order.{recordEnd, recordAt};
 ghost use Rattle.sheet.specs.Rules.{countWithin, fillRefusal, countRefusal, recordRefusal, recordsRefusal, sectionRefusal};
-ghost use Rattle.sheet.specs.Walk.{tallyBefore, reached};
+ghost use Rattle.sheet.specs.Walk.{RunsKnown, tallyBefore, reached};
 use crate::order::Kind;
 use expression_rules::expressions::expression_refusal;
 use expression_rules::operands::conjunct_refusal;
@@ -112,7 +112,7 @@ fn record_refusal(
     i: usize,
     at: usize,
 ) -> u8
-    requires { ⌜ (((at < 2 ^ 38) × (start < 2 ^ 38)) × ((expressions < 2 ^ 40) × (i < 2 ^ 16))) × ((tally < 2 ^ 40) × (tally ≡ tallyBefore kind (now s) expressions start i)) ⌝ }
+    requires { ⌜ ((((at < 2 ^ 38) × (start < 2 ^ 38)) × ((expressions < 2 ^ 40) × (i < 2 ^ 16))) × RunsKnown kind (now s) expressions) × ((tally < 2 ^ 40) × (tally ≡ tallyBefore kind (now s) expressions start i)) ⌝ }
     ensures { λ r. ⌜ r ≡ recordRefusal kind (now (s .entry)) sketches expressions start i at ⌝ }
 {
     match kind {
@@ -142,7 +142,7 @@ fn next_tally(
     i: usize,
     at: usize,
 ) -> usize
-    requires { ⌜ (((at < 2 ^ 38) × (expressions < 2 ^ 40)) × (at ≡ recordAt kind (now s) start i)) × ((tally < 2 ^ 40) × (tally ≡ tallyBefore kind (now s) expressions start i)) ⌝ }
+    requires { ⌜ ((((at < 2 ^ 38) × (expressions < 2 ^ 40)) × RunsKnown kind (now s) expressions) × (at ≡ recordAt kind (now s) start i)) × ((tally < 2 ^ 40) × (tally ≡ tallyBefore kind (now s) expressions start i)) ⌝ }
     ensures { λ r. ⌜ (r ≡ tallyBefore kind (now (s .entry)) expressions start (i + 1)) × (r < tally + 2 ^ 16) ⌝ }
 {
     match kind {
@@ -167,7 +167,7 @@ fn walk_records(
     start: usize,
     n: usize,
 ) -> Reached
-    requires { ⌜ ((length (now s) < 2 ^ 16) × (start + 2 ≤ length (now s))) × ((expressions < 2 ^ 16) × (n < 2 ^ 16)) ⌝ }
+    requires { ⌜ (((length (now s) < 2 ^ 16) × (start + 2 ≤ length (now s))) × RunsKnown kind (now s) expressions) × ((expressions < 2 ^ 16) × (n < 2 ^ 16)) ⌝ }
     ensures { λ r. ⌜ r ≡ reached (firstRefusal (recordsRefusal kind (now (s .entry)) sketches expressions start) 0 n) (recordAt kind (now (s .entry)) start n) ⌝ }
 {
     let mut at = start + 2;
@@ -187,7 +187,7 @@ fn walk_records(
 
 // The section whose count stands at a place.
 pub fn section(s: &[u8], kind: Kind, sketches: usize, expressions: usize, start: usize) -> Reached
-    requires { ⌜ ((length (now s) < 2 ^ 16) × (start ≤ length (now s))) × (expressions < 2 ^ 16) ⌝ }
+    requires { ⌜ (((length (now s) < 2 ^ 16) × (start ≤ length (now s))) × RunsKnown kind (now s) expressions) × (expressions < 2 ^ 16) ⌝ }
     ensures { λ r. ⌜ r ≡ reached (sectionRefusal kind (now (s .entry)) sketches expressions start) (recordAt kind (now (s .entry)) start (u16At (now (s .entry)) start)) ⌝ }
 {
     let refusal = count_refusal(s, kind, expressions, start);

@@ -1,33 +1,29 @@
 -- Two scalars that a sheet may hold are equal exactly where `scalarOrder` calls them so; Null alone has no order. Assumes nothing.
 use Prim.Native.Nat.{ℕ, zero, suc, _*_, _<_}
 use mathlib.Core.Path.{_≡_, refl, sym, ap, _∙_, subst}
-use mathlib.Core.Logic.{_↔_, _⊎_, inl, inr, ⊎-elim}
-use mathlib.Core.Bool.{Bool, true, false, cond, _&&_, _||_, false≢true}
+use mathlib.Core.Logic.{_↔_}
+use mathlib.Core.Bool.{Bool, true, false, cond, false≢true}
 use native.Mathlib.Nat.{le-antisymm, lt-irrefl, le-refl, zero-lt-suc, mul-pos}
 use borrow.Author.Tests.{ltb-false, le-ltb, eqb-true, eq-eqb}
-use lib.Dec.{T, eqb, ltb, lt→ltb}
+use lib.Dec.{T, eqb, ltb}
 use lib.IntN.{ℤ, pos, negsuc}
 use lib.Signed.{ltZ}
-use lib.Ieee.{Float, nan, inf, fin, binary64, up, down, fits, lt, le, eq, neg, level}
-use lib.Ieee.Fits.{and-l, and-r, up-pos, down-pos}
-use lib.Ieee.Bits.{is-true}
-use lib.Ieee.Positive.{positive, between}
+use lib.Ieee.{Float, nan, inf, fin, binary64, up, down, fits, lt, eq, level}
+use lib.Ieee.Fits.{up-pos, down-pos}
 use Rattle.rules.proofs.RuleLaws.{both-first, both-second}
 use Rattle.float.specs.Integers.{bit}
 use Rattle.float.specs.Order.{ordinary}
-use Rattle.float.specs.Ranges.{plusZero}
 use Rattle.float.proofs.RoundLaws.{value-unique}
-use Rattle.scalar.specs.Types.{scalarType, sameType, isNull}
-use Rattle.scalar.specs.Order.{integerOrder, floatOrder, orderThen, scalarIntegers, integersOrder, scalarFloat, typedOrder, scalarOrder, isEqual}
+use Rattle.scalar.specs.Types.{isNull}
+use Rattle.scalar.specs.Order.{integerOrder, floatOrder, orderThen, integerOptionOrder, floatOptionOrder, monthDayNanoOrder, dayTimeOrder, scalarOrder, isEqual}
 use Rattle.scalar.specs.declared.Scalar.{Scalar}
 use Rattle.scalar.specs.declared.Scalar.the-variants.{Null, Boolean, Int32, Int64, Float64, Decimal128, Date32, IntervalMonthDayNano, IntervalDayTime}
-use Rattle.scalar.specs.declared.ScalarType.{ScalarType}
-use Rattle.scalar.specs.declared.order.ScalarIntegers.{ScalarIntegers}
 use Rattle.scalar.specs.declared.order.ScalarOrdering.{ScalarOrdering}
 use Rattle.scalar.specs.declared.order.ScalarOrdering.the-variants.{Less, Equal, Greater, Unordered}
+use Rattle.scalar.proofs.TypeLaws.{boolean-or-none, int32-or-none, int64-or-none, date32-or-none, float64-or-none, decimal128-or-none, month-day-nano-or-none, day-time-or-none}
 use Rattle.scalar.proofs.OrderCases.{boolean-order, int32-order, int64-order, date32-order, float64-order, decimal-order, month-day-nano-order, day-time-order}
-use Rattle.scalar_bytes.specs.Reading.{float64Lawful}
 use Rattle.scalar_bytes.specs.Encoding.{lawfulScalar}
+use Rattle.scalar_bytes.proofs.FloatLaws.{lawful-ordinary}
 
 -- ---- whole numbers
 
@@ -56,16 +52,6 @@ both-equal Less p h = absurd (false≢true h)
 both-equal Equal p h = (refl, h)
 both-equal Greater p h = absurd (false≢true h)
 both-equal Unordered p h = absurd (false≢true h)
-
-integers-same : (a b : ScalarIntegers) → isEqual (integersOrder a b) ≡ true → a ≡ b
-unfolding integersOrder
-integers-same a b h =
-    let p = both-equal (integerOrder (a .first) (b .first)) _ h in
-    let q = both-equal (integerOrder (a .second) (b .second)) _ (p .1) in
-    let x = integer-same (a .first) (b .first) (p .0) in
-    let y = integer-same (a .second) (b .second) (q .0) in
-    let z = integer-same (a .third) (b .third) (q .1) in
-    λ i. record { first = x i; second = y i; third = z i }
 
 -- ---- floats
 
@@ -120,128 +106,55 @@ floats-equal x y h = last (lt x y) (lt y x) (eq x y) h
     last false false true h = refl
     last false false false h = absurd (false≢true h)
 
--- ---- the floats that a sheet may hold
-
-holds : (b : Bool) → b ≡ true → T b
-holds b h = subst T (sym h) tt
-
-either-of : (a b : Bool) → (a || b) ≡ true → (T a) ⊎ (T b)
-either-of true b h = inl tt
-either-of false b h = inr (holds b h)
-
-zero-ordinary : (x : Float) → T (plusZero x) → T (ordinary x)
-zero-ordinary nan z = absurd z
-zero-ordinary (inf s) z = absurd z
-zero-ordinary (fin true m e) z = absurd z
-zero-ordinary (fin false m e) z = tt
-
-positive-ordinary : (x : Float) → T (positive x) → T (ordinary x)
-positive-ordinary nan p = absurd p
-positive-ordinary (inf s) p = absurd p
-positive-ordinary (fin true m e) p = absurd p
-positive-ordinary (fin false m e) p = tt
-
-negative-ordinary : (x : Float) → T (positive (neg x)) → T (ordinary x)
-unfolding neg
-negative-ordinary nan p = absurd p
-negative-ordinary (inf s) p = absurd p
-negative-ordinary (fin true zero e) p = absurd p
-negative-ordinary (fin true (suc m) e) p = lt→ltb 0 (suc m) (zero-lt-suc m)
-negative-ordinary (fin false m e) p = tt
-
-abbrev low : Float
-low = fin false 1 (negsuc 399)
-
-abbrev high : Float
-high = fin false 1 (pos 400)
-
-within-positive : (x : Float) → T (le low x && le x high) → T (positive x)
-within-positive x h = between low x high tt tt (and-l (le low x) (le x high) h) (and-r (le low x) (le x high) h)
-
-lawful-ordinary : (x : Float) → float64Lawful x ≡ true → T (ordinary x)
-lawful-ordinary x h =
-    ⊎-elim
-    (λ z. ⊎-elim (zero-ordinary x) (λ b. positive-ordinary x (within-positive x b)) (either-of (plusZero x) (le low x && le x high) (is-true _ z)))
-    (λ b. negative-ordinary x (within-positive (neg x) b))
-    (either-of (plusZero x || (le low x && le x high)) (le low (neg x) && le (neg x) high) h)
-
--- ---- scalars by their types and numbers
-
-types-same : (a b : ScalarType) → sameType a b ≡ true → a ≡ b
-types-same a b h =
-    let r = both-second (eqb (a .tag) (b .tag)) _ h in
-    let x = eqb-true (a .tag) (b .tag) (both-first (eqb (a .tag) (b .tag)) _ h) in
-    let y = eqb-true (a .precision) (b .precision) (both-first (eqb (a .precision) (b .precision)) _ r) in
-    let z = eqb-true (a .scale) (b .scale) (both-second (eqb (a .precision) (b .precision)) _ r) in
-    λ i. record { tag = x i; precision = y i; scale = z i }
-
-abbrev isOne : ℤ → Bool
-isOne (pos n) = eqb n 1
-isOne (negsuc n) = false
-
--- a scalar that is no Float64
-abbrev whole : ScalarType → ScalarIntegers → Scalar
-whole t n =
-    cond (eqb (t .tag) 1) (Boolean (isOne (n .first)))
-    (cond (eqb (t .tag) 2) (Int32 (n .first))
-    (cond (eqb (t .tag) 3) (Int64 (n .first))
-    (cond (eqb (t .tag) 5) (Decimal128 (n .first) (t .precision) (t .scale))
-    (cond (eqb (t .tag) 6) (Date32 (n .first))
-    (cond (eqb (t .tag) 8) (IntervalMonthDayNano (n .first) (n .second) (n .third))
-    (cond (eqb (t .tag) 9) (IntervalDayTime (n .first) (n .second)) Null))))))
-
-made : (x : Scalar) → cond (eqb (scalarType x .tag) 4) (Float64 (scalarFloat x)) (whole (scalarType x) (scalarIntegers x)) ≡ x
-unfolding scalarType scalarFloat scalarIntegers
-made Null = refl
-made (Boolean true) = refl
-made (Boolean false) = refl
-made (Int32 x) = refl
-made (Int64 x) = refl
-made (Float64 x) = refl
-made (Decimal128 value precision scale) = refl
-made (Date32 x) = refl
-made (IntervalMonthDayNano months days nanoseconds) = refl
-made (IntervalDayTime days milliseconds) = refl
-
-float-made : (x : Scalar) → eqb (scalarType x .tag) 4 ≡ true → Float64 (scalarFloat x) ≡ x
-float-made x e = rw e at (made x)
-
-whole-made : (x : Scalar) → eqb (scalarType x .tag) 4 ≡ false → whole (scalarType x) (scalarIntegers x) ≡ x
-whole-made x e = rw e at (made x)
+-- ---- the law
 
 float-held : (x : Float) → lawfulScalar (Float64 x) ≡ true → T (fits binary64 x) × T (ordinary x)
 unfolding lawfulScalar
-float-held x h = (holds (fits binary64 x) (both-first (fits binary64 x) _ h), lawful-ordinary x (both-second (fits binary64 x) _ h))
+float-held x h = (subst T (sym (both-first (fits binary64 x) _ h)) tt, lawful-ordinary x (both-second (fits binary64 x) _ h))
 
--- ---- the law
+bit-same : (a b : Bool) → pos (bit a) ≡ pos (bit b) → a ≡ b
+bit-same true true e = refl
+bit-same true false e = cc
+bit-same false true e = cc
+bit-same false false e = refl
 
-module _ (a b : Scalar) (la : lawfulScalar a ≡ true) (lb : lawfulScalar b ≡ true) where
-  floats-same : eqb (scalarType a .tag) 4 ≡ true → eqb (scalarType b .tag) 4 ≡ true → isEqual (floatOrder (scalarFloat a) (scalarFloat b)) ≡ true → a ≡ b
-  floats-same ea eb h =
-      let x = float-held (scalarFloat a) (ap lawfulScalar (float-made a ea) ∙ la) in
-      let y = float-held (scalarFloat b) (ap lawfulScalar (float-made b eb) ∙ lb) in
-      sym (float-made a ea) ∙ ap Float64 (float-same (scalarFloat a) (scalarFloat b) (x .0) (y .0) (x .1) (y .1) (floats-equal (scalarFloat a) (scalarFloat b) h)) ∙ float-made b eb
-
-  ordered-same : isEqual (scalarOrder a b) ≡ true → a ≡ b
-  unfolding scalarOrder typedOrder
-  ordered-same h =
-      let f = first (sameType (scalarType a) (scalarType b)) _ h in
-      by-type (types-same (scalarType a) (scalarType b) (f .0)) (eqb (scalarType a .tag) 4) refl (second (eqb (scalarType a .tag) 0) _ (f .1))
-    where
-      first : (t : Bool) (o : ScalarOrdering) → isEqual (cond t o Unordered) ≡ true → (t ≡ true) × (isEqual o ≡ true)
-      first true o h = (refl, h)
-      first false o h = absurd (false≢true h)
-
-      second : (t : Bool) (o : ScalarOrdering) → isEqual (cond t Unordered o) ≡ true → isEqual o ≡ true
-      second true o h = absurd (false≢true h)
-      second false o h = h
-
-      by-type : scalarType a ≡ scalarType b → (t : Bool) → eqb (scalarType a .tag) 4 ≡ t
-          → isEqual (cond t (floatOrder (scalarFloat a) (scalarFloat b)) (integersOrder (scalarIntegers a) (scalarIntegers b))) ≡ true → a ≡ b
-      by-type e true t h = floats-same t (ap (λ (k : ScalarType). eqb (k .tag) 4) (sym e) ∙ t) h
-      by-type e false t h =
-          let n = integers-same (scalarIntegers a) (scalarIntegers b) h in
-          sym (whole-made a t) ∙ (λ i. whole (e i) (n i)) ∙ whole-made b (ap (λ (k : ScalarType). eqb (k .tag) 4) (sym e) ∙ t)
+ordered-same : (a b : Scalar) → lawfulScalar a ≡ true → lawfulScalar b ≡ true → isEqual (scalarOrder a b) ≡ true → a ≡ b
+unfolding scalarOrder
+ordered-same Null b la = λ lb h. absurd (false≢true h)
+ordered-same (Boolean x) b la =
+    boolean-or-none (λ b o. lawfulScalar b ≡ true → isEqual (integerOptionOrder (pos (bit x)) o) ≡ true → Boolean x ≡ b) (λ b lb h. absurd (false≢true h))
+    (λ y lb h. ap Boolean (bit-same x y (integer-same (pos (bit x)) (pos (bit y)) h))) b
+ordered-same (Int32 x) b la =
+    int32-or-none (λ b o. lawfulScalar b ≡ true → isEqual (integerOptionOrder x o) ≡ true → Int32 x ≡ b) (λ b lb h. absurd (false≢true h))
+    (λ y lb h. ap Int32 (integer-same x y h)) b
+ordered-same (Int64 x) b la =
+    int64-or-none (λ b o. lawfulScalar b ≡ true → isEqual (integerOptionOrder x o) ≡ true → Int64 x ≡ b) (λ b lb h. absurd (false≢true h))
+    (λ y lb h. ap Int64 (integer-same x y h)) b
+ordered-same (Float64 x) b la =
+    float64-or-none (λ b o. lawfulScalar b ≡ true → isEqual (floatOptionOrder x o) ≡ true → Float64 x ≡ b) (λ b lb h. absurd (false≢true h))
+    (λ y lb h. let f = float-held x la in let g = float-held y lb in ap Float64 (float-same x y (f .0) (g .0) (f .1) (g .1) (floats-equal x y h))) b
+ordered-same (Decimal128 x p s) b la =
+    decimal128-or-none p s (λ b o. lawfulScalar b ≡ true → isEqual (integerOptionOrder x o) ≡ true → Decimal128 x p s ≡ b) (λ b lb h. absurd (false≢true h))
+    (λ y lb h. ap (λ (z : ℤ). Decimal128 z p s) (integer-same x y h)) b
+ordered-same (Date32 x) b la =
+    date32-or-none (λ b o. lawfulScalar b ≡ true → isEqual (integerOptionOrder x o) ≡ true → Date32 x ≡ b) (λ b lb h. absurd (false≢true h))
+    (λ y lb h. ap Date32 (integer-same x y h)) b
+ordered-same (IntervalMonthDayNano m d n) b la =
+    month-day-nano-or-none (λ b o. lawfulScalar b ≡ true → isEqual (monthDayNanoOrder m d n o) ≡ true → IntervalMonthDayNano m d n ≡ b) (λ b lb h. absurd (false≢true h))
+    (λ m′ d′ n′ lb h.
+    let p = both-equal (integerOrder m m′) _ h in
+    let q = both-equal (integerOrder d d′) _ (p .1) in
+    let x = integer-same m m′ (p .0) in
+    let y = integer-same d d′ (q .0) in
+    let z = integer-same n n′ (q .1) in
+    λ i. IntervalMonthDayNano (x i) (y i) (z i)) b
+ordered-same (IntervalDayTime d t) b la =
+    day-time-or-none (λ b o. lawfulScalar b ≡ true → isEqual (dayTimeOrder d t o) ≡ true → IntervalDayTime d t ≡ b) (λ b lb h. absurd (false≢true h))
+    (λ d′ t′ lb h.
+    let p = both-equal (integerOrder d d′) _ h in
+    let x = integer-same d d′ (p .0) in
+    let y = integer-same t t′ (p .1) in
+    λ i. IntervalDayTime (x i) (y i)) b
 
 own-order : (a : Scalar) → lawfulScalar a ≡ true → isNull a ≡ false → scalarOrder a a ≡ Equal
 own-order Null l n = absurd (false≢true (sym n))

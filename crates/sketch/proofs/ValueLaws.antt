@@ -17,12 +17,13 @@ use Rattle.float.specs.Integers.{bit}
 use Rattle.le.specs.Fields.{byteAt}
 use Rattle.le.specs.Integers.{i32At, i64At}
 use Rattle.le.specs.Floats.{f64At}
-use Rattle.scalar.specs.Types.{scalarType}
-use Rattle.scalar.specs.Order.{integerOrder, floatOrder, orderThen, scalarOrder, isEqual}
+use Rattle.scalar.specs.Order.{integerOrder, floatOrder, orderThen, integerOptionOrder, scalarOrder, isEqual}
 use Rattle.scalar.specs.declared.Scalar.{Scalar}
 use Rattle.scalar.specs.declared.Scalar.the-variants.{Boolean, Int32, Int64, Float64, Decimal128, Date32, IntervalMonthDayNano, IntervalDayTime}
 use Rattle.scalar.specs.declared.order.ScalarOrdering.{ScalarOrdering}
 use Rattle.scalar.specs.declared.order.ScalarOrdering.the-variants.{Less, Equal, Greater, Unordered}
+use Rattle.scalar.specs.declared.types.IntegerOption.the-variants.{NoInteger, Integer}
+use Rattle.scalar.proofs.TypeLaws.{scalarTag}
 use Rattle.scalar.proofs.OrderCases.{boolean-order, int32-order, int64-order, float64-order, date32-order, month-day-nano-order, day-time-order, unlike-types}
 use Rattle.scalar_bytes.specs.Reading.{scalarAt}
 use Rattle.sketch.proofs.EqualLaws.{integer-own, integer-same}
@@ -80,9 +81,9 @@ float-test x y = go (eq x y) (equal-not-below x y) (lt x y) refl (lt y x) refl
 -- ---- the tag
 
 abbrev Tagged : ℕ → Scalar → Type 0
-Tagged tag x = (scalarType x .tag ≡ tag) ⊎ (scalarType x .tag ≡ 0)
+Tagged tag x = (scalarTag x ≡ tag) ⊎ (scalarTag x ≡ 0)
 
-or-tagged : (tag k : ℕ) (x y : Scalar) → scalarType x .tag ≡ k → Tagged tag y → Tagged tag (cond (eqb tag k) x y)
+or-tagged : (tag k : ℕ) (x y : Scalar) → scalarTag x ≡ k → Tagged tag y → Tagged tag (cond (eqb tag k) x y)
 or-tagged tag k x y e rest = go (eqb tag k) (eqb-true tag k)
   where
     go : (t : Bool) → (t ≡ true → tag ≡ k) → Tagged tag (cond t x y)
@@ -90,17 +91,17 @@ or-tagged tag k x y e rest = go (eqb tag k) (eqb-true tag k)
     go false h = rest
 
 scalar-tagged : (s : List ℕ) (at : ℕ) → Tagged (byteAt s at) (scalarAt s at)
-unfolding scalarAt scalarType
+unfolding scalarAt
 scalar-tagged s at =
     let tag = byteAt s at in
     or-tagged tag 1 _ _ refl (or-tagged tag 2 _ _ refl (or-tagged tag 3 _ _ refl (or-tagged tag 4 _ _ refl (or-tagged tag 5 _ _ refl (or-tagged tag 6 _ _ refl (or-tagged tag 8 _ _ refl (or-tagged tag 9 _ _ refl (inr refl))))))))
 
 -- another tag than the value's, which is not 0
-pub other-tag : (s : List ℕ) (at k : ℕ) (value : Scalar) → scalarType value .tag ≡ suc k → (byteAt s at ≡ suc k → ⊥) → false ≡ isEqual (scalarOrder (scalarAt s at) value)
+pub other-tag : (s : List ℕ) (at k : ℕ) (value : Scalar) → scalarTag value ≡ suc k → (byteAt s at ≡ suc k → ⊥) → false ≡ isEqual (scalarOrder (scalarAt s at) value)
 other-tag s at k value e n = sym (ap isEqual (unlike-types (scalarAt s at) value apart))
   where
-    apart : scalarType (scalarAt s at) .tag ≡ scalarType value .tag → ⊥
-    apart q = ⊎-elim (λ (h : scalarType (scalarAt s at) .tag ≡ byteAt s at). n (sym h ∙ q ∙ e)) (λ (h : scalarType (scalarAt s at) .tag ≡ 0). let z : 0 ≡ suc k = sym h ∙ q ∙ e in omega arith) (scalar-tagged s at)
+    apart : scalarTag (scalarAt s at) ≡ scalarTag value → ⊥
+    apart q = ⊎-elim (λ (h : scalarTag (scalarAt s at) ≡ byteAt s at). n (sym h ∙ q ∙ e)) (λ (h : scalarTag (scalarAt s at) ≡ 0). let z : 0 ≡ suc k = sym h ∙ q ∙ e in omega arith) (scalar-tagged s at)
 
 -- ---- the value's tag
 
@@ -117,13 +118,13 @@ both-orders Equal p = refl
 both-orders Greater p = refl
 both-orders Unordered p = refl
 
-where-ordered : (t : Bool) (o : ScalarOrdering) → isEqual (cond t o Unordered) ≡ (t && isEqual o)
-where-ordered true o = refl
-where-ordered false o = refl
-
 decimals-equal : (a b : ℤ) (p q k l : ℕ) → isEqual (scalarOrder (Decimal128 a p k) (Decimal128 b q l)) ≡ ((eqb p q && eqb k l) && isEqual (integerOrder a b))
 unfolding scalarOrder
-decimals-equal a b p q k l = where-ordered (eqb p q && eqb k l) _ ∙ ap (λ (o : ScalarOrdering). (eqb p q && eqb k l) && isEqual o) (int64-order a b)
+decimals-equal a b p q k l = go (eqb p q && eqb k l)
+  where
+    go : (t : Bool) → isEqual (integerOptionOrder a (cond t (Integer b) NoInteger)) ≡ (t && isEqual (integerOrder a b))
+    go true = refl
+    go false = refl
 
 module _ (s : List ℕ) (at : ℕ) where
   pub boolean-there : (x : Bool) → byteAt s at ≡ 1 → isEqual (integerOrder (pos (bit (eqb (byteAt s (at + 1)) 1))) (pos (bit x))) ≡ isEqual (scalarOrder (scalarAt s at) (Boolean x))

@@ -11,6 +11,7 @@ use Rattle.scalar.specs.Order.{scalarOrder}
 use Rattle.scalar.specs.declared.Scalar.{Scalar}
 use Rattle.scalar.specs.declared.Scalar.the-variants.{Null, Int32, Int64}
 use Rattle.scalar.specs.declared.Bound.the-variants.{Absent}
+use Rattle.estimate.specs.Estimates.{estimateOf}
 use Rattle.estimate.specs.declared.Estimate.{Estimate}
 use Rattle.estimate.specs.declared.EstimateSource.the-variants.{Catalog}
 use Rattle.records.specs.Sketches.{Sketch}
@@ -28,7 +29,7 @@ counted = record {
 }
 
 abbrev figure : Float → Estimate
-figure x = record { value = x; lower = none; upper = none; source = Catalog }
+figure x = estimateOf x none none Catalog
 
 -- 9 distinct values
 abbrev profileOf : SketchNumber → ColumnProfile

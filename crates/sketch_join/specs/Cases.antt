@@ -10,6 +10,7 @@ use Rattle.float.specs.declared.option.OptionF64.{OptionF64}
 use Rattle.scalar.specs.Order.{scalarOrder}
 use Rattle.scalar.specs.declared.Scalar.the-variants.{Int64}
 use Rattle.scalar.specs.declared.Bound.the-variants.{Absent}
+use Rattle.estimate.specs.Estimates.{estimateOf}
 use Rattle.estimate.specs.declared.Estimate.{Estimate}
 use Rattle.estimate.specs.declared.EstimateSource.the-variants.{Catalog}
 use Rattle.records.specs.Sketches.{Sketch}
@@ -47,7 +48,7 @@ abbrev number : ℕ → Float
 number n = fin false n (pos 0)
 
 abbrev figure : ℕ → Estimate
-figure n = record { value = number n; lower = none; upper = none; source = Catalog }
+figure n = estimateOf (number n) none none Catalog
 
 -- how often it is not null, and its distinct values
 abbrev profileOf : ℕ → ℕ → SketchNumber → ColumnProfile

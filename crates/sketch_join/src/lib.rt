@@ -22,7 +22,7 @@ mod rows;
 pub mod sums;
 
 // The sketches with two numbers. A number that the section does not hold names no sketch.
-fn numbered_join(
+fn join_by_number(
     s: &[u8],
     start: u16,
     left_number: u16,
@@ -43,8 +43,8 @@ fn numbered_join(
     none()
 }
 
-// As `numbered_join`, for the part of the left rows that find a partner.
-fn numbered_match(
+// As `join_by_number`, for the part of the left rows that find a partner.
+fn match_by_number(
     s: &[u8],
     start: u16,
     left_number: u16,
@@ -91,7 +91,7 @@ pub fn sketch_join_estimate(
         SketchNumber::Present(i) => match right_sketch {
             SketchNumber::Absent => none(),
             SketchNumber::Present(j) => {
-                numbered_join(s, start, i, j, left, left_rows, right, right_rows)
+                join_by_number(s, start, i, j, left, left_rows, right, right_rows)
             }
         },
     }
@@ -115,7 +115,7 @@ pub fn sketch_left_match_probability(
         SketchNumber::Absent => none(),
         SketchNumber::Present(i) => match right_sketch {
             SketchNumber::Absent => none(),
-            SketchNumber::Present(j) => numbered_match(
+            SketchNumber::Present(j) => match_by_number(
                 s,
                 start,
                 i,

@@ -5,12 +5,9 @@ use mathlib.Core.Bool.{_&&_}
 use mathlib.Core.List.{List}
 use native.Mathlib.Omega.{arith}
 use lib.ListN.{length}
-use lib.Dec.{leb}
-use borrow.Author.Tests.{leb-true}
-use Rattle.le.specs.Fields.{u16At, u64At}
-use Rattle.rules.specs.Rules.{ask}
-use Rattle.rules.proofs.RuleLaws.{ask-kept, both-second, else-first, else-second, each-kept}
-use Rattle.record_rules.specs.Fields.{whole, countLawful}
+use Rattle.le.specs.Fields.{u16At}
+use Rattle.rules.proofs.RuleLaws.{else-first, else-second, each-kept}
+use Rattle.record_rules.specs.Fields.{whole}
 use Rattle.record_rules.proofs.RoomLaws.{whole-room}
 use Rattle.sketch_rules.specs.Sketches.{itemRefusal, sketchHeadRefusal, sketchRefusal}
 
@@ -21,13 +18,6 @@ item-room s first j e = whole-room 35 s (first + 35 * j) (omega arith) (else-fir
 head-room : (s : List ℕ) (items at : ℕ) → sketchHeadRefusal s items at ≡ 0 → at + 10 ≤ length s
 unfolding sketchHeadRefusal
 head-room s items at e = whole-room 10 s at (omega arith) (else-first (whole 10 s at) _ e)
-
-head-items : (s : List ℕ) (items at : ℕ) → sketchHeadRefusal s items at ≡ 0 → items + u16At s (at + 8) ≤ 512
-unfolding sketchHeadRefusal
-head-items s items at e =
-    let n : ℕ = u16At s (at + 8) in
-    let within = else-second (ask (countLawful (u64At s at)) 4) _ (else-second (whole 10 s at) _ e) in
-    leb-true (items + n) 512 (both-second (leb n 64) _ (ask-kept (leb n 64 && leb (items + n) 512) 3 (omega arith) within))
 
 sketch-head : (s : List ℕ) (items at : ℕ) → sketchRefusal s items at ≡ 0 → sketchHeadRefusal s items at ≡ 0
 unfolding sketchRefusal
@@ -44,6 +34,3 @@ items-room s first (suc n) h e = let last : first + 35 * n + 35 ≤ length s = i
 
 pub sketch-room : (s : List ℕ) (items at : ℕ) → sketchRefusal s items at ≡ 0 → at + 10 + 35 * u16At s (at + 8) ≤ length s
 sketch-room s items at e = items-room s (at + 10) (u16At s (at + 8)) (head-room s items at (sketch-head s items at e)) (sketch-each s items at e)
-
-pub sketch-items : (s : List ℕ) (items at : ℕ) → sketchRefusal s items at ≡ 0 → items + u16At s (at + 8) ≤ 512
-sketch-items s items at e = head-items s items at (sketch-head s items at e)

@@ -1,9 +1,10 @@
 -- Laws of conjuncts: what an expression gives, and the operands of a run one by one. Assumes nothing.
-use Prim.Native.Nat.{ℕ, _+_, _-_, _*_, _≤_, _<_, _^_, min}
-use mathlib.Core.Path.{_≡_, sym, ap, _∙_}
-use mathlib.Core.List.{List, [], _∷_, _++_}
+use Prim.Native.Nat.{ℕ, suc, _+_, _-_, _≤_, _<_, min}
+use mathlib.Core.Path.{_≡_, refl, sym, ap, _∙_}
+use mathlib.Core.List.{List, [], _∷_, _++_, append-assoc}
 use native.Mathlib.Omega.{arith}
-use lib.ListN.{length, take, drop, length-append}
+use lib.ListN.{length, take, drop, getD, set, length-append}
+use lib.Seq.{drop-cons, append-snoc, set-append-seam}
 use Rattle.records.specs.Lists.{tabulateFrom}
 use Rattle.records.specs.declared.expressions.Expression.{Expression}
 use Rattle.records.proofs.ListLaws.{tabulate-step, tabulate-end}
@@ -14,8 +15,6 @@ use Rattle.lookup.specs.Recursion.{below, byNumber}
 use Rattle.lookup.proofs.LookupLaws.{operands-from}
 use Rattle.lookup.proofs.RecursionLaws.{below-is, below-not}
 use Rattle.le.specs.Fields.{onto}
-use Rattle.number_bytes.specs.Numbers.{numbersBytes}
-use Rattle.number_bytes.proofs.NumberLaws.{numbers-length, numbers-append}
 use Rattle.number_bytes.proofs.FilledLaws.{Filled, filled-first, filled-within, filled-room, filled-part, filled-next, filled-length, filled-all}
 use Rattle.split.specs.Conjuncts.{andRun, flattened, runConjuncts, conjunctsBy, itself, conjuncts}
 use Rattle.split.specs.declared.run.AndRun.{AndRun}
@@ -46,113 +45,101 @@ module _ (sheet : Sheet) (limit o : ℕ) where
   pub operand-not-below : limit ≤ o → o ∷ [] ≡ below (conjunctsBy sheet) itself limit o
   operand-not-below h = below-not (conjunctsBy sheet) itself limit o h
 
--- ---- the operands of a run, where a loop stands at the i-th and has counted `sum`
+-- ---- a number that is stored
 
-module _ (s : List ℕ) (q : Sections) (first count : ℕ) (conjunctsOf : ℕ → List ℕ) where
-  abbrev all : List ℕ
-  all = flattened conjunctsOf (operandsOf (sheetOf s q) first count)
+pub stored-first : (l : List ℕ) (n : ℕ) → 1 ≤ length l → set l 0 n ≡ onto (n ∷ []) l
+unfolding onto
+stored-first [] n h = absurd (none h)
+  where
+    none : 1 ≤ 0 → ⊥
+    none h = omega arith
+stored-first (x ∷ l) n h = refl
 
-  abbrev pub restFrom : ℕ → ℕ → List ℕ
-  restFrom i end = flattened conjunctsOf (tabulateFrom (operandIn s (q .operands)) i (end - i))
+-- behind those that are there already
+stored-behind : (done out : List ℕ) (n : ℕ) → length done < length out → set (onto done out) (length done) n ≡ onto (done ++ (n ∷ [])) out
+unfolding onto
+stored-behind done out n h =
+    let rest : List ℕ = drop (suc (length done)) out in
+    let long : length (done ++ (n ∷ [])) ≡ suc (length done) = length-append done (n ∷ []) ∙ one (length done) in
+    ap (λ (l : List ℕ). set (done ++ l) (length done) n) (drop-cons out (length done) 0 h)
+    ∙ set-append-seam done (getD out (length done) 0) rest n
+    ∙ sym (append-snoc done n rest)
+    ∙ ap (λ (m : ℕ). (done ++ (n ∷ [])) ++ drop m out) (sym long)
+  where
+    one : (m : ℕ) → m + 1 ≡ suc m
+    one m = omega arith
 
-  pub rest-first : (end : ℕ) → end ≡ min (first + count) (length (sheetOf s q .operands)) → restFrom first end ≡ all
-  rest-first end h = ap (flattened conjunctsOf) (ap (λ (m : ℕ). tabulateFrom (operandIn s (q .operands)) first (m - first)) h ∙ sym (operands-from s q first count))
+-- ---- the operands of a run, where a loop stands at the i-th and has put the conjuncts of those before it
 
-  pub rest-next : (i end : ℕ) → i < end → restFrom i end ≡ conjunctsOf (operandIn s (q .operands) i) ++ restFrom (i + 1) end
-  unfolding flattened
-  rest-next i end h = ap (flattened conjunctsOf) (tabulate-step (operandIn s (q .operands)) i end h)
+module _ (s : List ℕ) (q : Sections) (first count limit : ℕ) where
+  abbrev pub operandConjuncts : ℕ → List ℕ
+  operandConjuncts = below (conjunctsBy (sheetOf s q)) itself limit
 
-  pub rest-none : (i end : ℕ) → end ≤ i → restFrom i end ≡ []
-  unfolding flattened
-  rest-none i end h = ap (flattened conjunctsOf) (tabulate-end (operandIn s (q .operands)) i end h)
+  abbrev pub all : List ℕ
+  all = flattened operandConjuncts (operandsOf (sheetOf s q) first count)
 
-  -- counted up to the largest number of 64 bits
-  abbrev pub Counted : ℕ → ℕ → ℕ → Type 0
-  Counted sum i end = min (sum + length (restFrom i end)) (2 ^ 64 - 1) ≡ min (length all) (2 ^ 64 - 1)
+  unfoldable pub restFrom : ℕ → ℕ → List ℕ
+  restFrom end i = flattened operandConjuncts (tabulateFrom (operandIn s (q .operands)) i (end - i))
 
-  pub counted-first : (end : ℕ) → end ≡ min (first + count) (length (sheetOf s q .operands)) → Counted 0 first end
-  counted-first end h = ap (λ (l : List ℕ). min (0 + length l) (2 ^ 64 - 1)) (rest-first end h) ∙ plain (length all)
-    where
-      plain : (n : ℕ) → min (0 + n) (2 ^ 64 - 1) ≡ min n (2 ^ 64 - 1)
-      plain n = omega arith
+  -- `at` numbers are put into what held numbers₀
+  abbrev pub Put : List ℕ → List ℕ → ℕ → ℕ → ℕ → Type 0
+  Put numbers₀ numbers at i end = Filled (restFrom end) all numbers₀ numbers at i
 
-  pub counted-next : (sum i end o one next : ℕ) → i < end → o ≡ operandIn s (q .operands) i → one ≡ min (length (conjunctsOf o)) (2 ^ 64 - 1) → next ≡ min (sum + one) (2 ^ 64 - 1) → Counted sum i end → Counted next (i + 1) end
-  counted-next sum i end o one next h e f g c =
-      step sum (length (conjunctsOf o)) (length (restFrom (i + 1) end)) one next f g
-      ∙ ap (λ (m : ℕ). min (sum + m) (2 ^ 64 - 1)) (sym (length-append (conjunctsOf o) (restFrom (i + 1) end)))
-      ∙ ap (λ (p : ℕ). min (sum + length (conjunctsOf p ++ restFrom (i + 1) end)) (2 ^ 64 - 1)) e
-      ∙ ap (λ (l : List ℕ). min (sum + length l) (2 ^ 64 - 1)) (sym (rest-next i end h))
-      ∙ c
-    where
-      step : (sum a b one next : ℕ) → one ≡ min a (2 ^ 64 - 1) → next ≡ min (sum + one) (2 ^ 64 - 1) → min (next + b) (2 ^ 64 - 1) ≡ min (sum + (a + b)) (2 ^ 64 - 1)
-      step sum a b one next f g = omega arith
+  module _ (numbers₀ : List ℕ) where
+    pub put-first : (end : ℕ) → end ≡ min (first + count) (length (sheetOf s q .operands)) → Put numbers₀ numbers₀ 0 first end
+    unfolding restFrom
+    put-first end h = filled-first (restFrom end) all numbers₀ first (ap (flattened operandConjuncts) (ap (λ (m : ℕ). tabulateFrom (operandIn s (q .operands)) first (m - first)) h ∙ sym (operands-from s q first count)))
 
-  pub counted-all : (sum i end : ℕ) → end ≤ i → sum ≤ 2 ^ 64 - 1 → Counted sum i end → sum ≡ min (length all) (2 ^ 64 - 1)
-  counted-all sum i end h k c = plain sum k ∙ ap (λ (l : List ℕ). min (sum + length l) (2 ^ 64 - 1)) (sym (rest-none i end h)) ∙ c
-    where
-      plain : (sum : ℕ) → sum ≤ 2 ^ 64 - 1 → sum ≡ min (sum + 0) (2 ^ 64 - 1)
-      plain sum k = omega arith
+    pub put-all : (numbers : List ℕ) (at i end : ℕ) → end ≤ i → Put numbers₀ numbers at i end → (at ≡ length all) × (numbers ≡ onto all numbers₀)
+    unfolding flattened restFrom
+    put-all numbers at i end h p =
+        let none : restFrom end i ≡ [] = ap (flattened operandConjuncts) (tabulate-end (operandIn s (q .operands)) i end h) in
+        (filled-length (restFrom end) all numbers₀ numbers at i none p, filled-all (restFrom end) all numbers₀ numbers at i none p)
 
--- ---- written: a case of `Filled`
+    module _ (room : length all ≤ length numbers₀) where
+      -- what is lent keeps its length, and what was put lies within it
+      pub put-within : (numbers : List ℕ) (at i end : ℕ) → Put numbers₀ numbers at i end → (length numbers ≡ length numbers₀) × (at ≤ length numbers)
+      put-within numbers at i end p = filled-within (restFrom end) all numbers₀ room numbers at i p
 
--- the bytes of the conjuncts of the operands from the i-th on
-unfoldable pub bytesFrom : List ℕ → Sections → ℕ → ℕ → (ℕ → List ℕ) → ℕ → ℕ → List ℕ
-unfolding flattened numbersBytes
-bytesFrom s q first count conjunctsOf end i = numbersBytes (restFrom s q first count conjunctsOf i end)
+      module _ (numbers : List ℕ) (at i end o : ℕ) (h : i < end) (e : o ≡ operandIn s (q .operands) i) (p : Put numbers₀ numbers at i end) where
+        next : (piece : List ℕ) → piece ≡ operandConjuncts o → restFrom end i ≡ piece ++ restFrom end (i + 1)
+        unfolding flattened restFrom
+        next piece g =
+            ap (flattened operandConjuncts) (tabulate-step (operandIn s (q .operands)) i end h)
+            ∙ ap (λ (l : List ℕ). l ++ restFrom end (i + 1)) (sym (g ∙ ap operandConjuncts e))
 
--- what a loop that stands at the i-th operand has written into a slice that held out₀
-abbrev pub Written : List ℕ → Sections → ℕ → ℕ → (ℕ → List ℕ) → List ℕ → List ℕ → ℕ → ℕ → ℕ → Type 0
-Written s q first count conjunctsOf out₀ out at i end =
-    Filled (bytesFrom s q first count conjunctsOf end) (numbersBytes (flattened conjunctsOf (operandsOf (sheetOf s q) first count))) out₀ out at i
+        -- an operand below the limit: its conjuncts, in the part that is lent for them
+        module _ (l : o < limit) where
+          its : restFrom end i ≡ conjuncts (sheetOf s q) o ++ restFrom end (i + 1)
+          its = next (conjuncts (sheetOf s q) o) (operand-below (sheetOf s q) limit o l)
 
-module _ (s : List ℕ) (q : Sections) (first count : ℕ) (conjunctsOf : ℕ → List ℕ) (out₀ : List ℕ) where
-  abbrev whole : List ℕ
-  whole = flattened conjunctsOf (operandsOf (sheetOf s q) first count)
+          pub put-room : at + length (conjuncts (sheetOf s q) o) ≤ length numbers
+          put-room = filled-room (restFrom end) all numbers₀ room numbers (conjuncts (sheetOf s q) o) at i p its
 
-  room : 2 * length whole ≤ length out₀ → length (numbersBytes whole) ≤ length out₀
-  room r = let l = numbers-length whole in omega arith
+          pub put-part : length (conjuncts (sheetOf s q) o) ≤ length (take (length numbers - at) (drop at numbers))
+          put-part = filled-part (restFrom end) all numbers₀ room numbers (conjuncts (sheetOf s q) o) at i p its
 
-  pub written-first : (end : ℕ) → end ≡ min (first + count) (length (sheetOf s q .operands)) → Written s q first count conjunctsOf out₀ out₀ 0 first end
-  unfolding bytesFrom
-  written-first end h = filled-first (bytesFrom s q first count conjunctsOf end) (numbersBytes whole) out₀ first (ap numbersBytes (rest-first s q first count conjunctsOf end h))
+          pub put-next : (X Y : List ℕ) (a k n : ℕ) → X ≡ take at numbers ++ (Y ++ drop k (drop at numbers)) → a ≡ at + n → n ≡ length (conjuncts (sheetOf s q) o) → k ≡ length numbers - at
+              → Y ≡ onto (conjuncts (sheetOf s q) o) (take k (drop at numbers)) → Put numbers₀ X a (i + 1) end
+          put-next X Y a k n x b f g y = rw (x, b) (filled-next (restFrom end) all numbers₀ room numbers (conjuncts (sheetOf s q) o) at i p its Y k n f g y)
 
-  -- the slice keeps its length, and what was written lies within it
-  pub written-within : (out : List ℕ) (at i end : ℕ) → 2 * length whole ≤ length out₀ → Written s q first count conjunctsOf out₀ out at i end → (length out ≡ length out₀) × (at ≤ length out)
-  written-within out at i end r w = filled-within (bytesFrom s q first count conjunctsOf end) (numbersBytes whole) out₀ (room r) out at i w
+        -- any other operand is its own one conjunct
+        module _ (l : limit ≤ o) where
+          itself-next : restFrom end i ≡ (o ∷ []) ++ restFrom end (i + 1)
+          itself-next = next (o ∷ []) (operand-not-below (sheetOf s q) limit o l)
 
-  module _ (out : List ℕ) (at i end o : ℕ) (h : i < end) (e : o ≡ operandIn s (q .operands) i) (w : Written s q first count conjunctsOf out₀ out at i end) where
-    next : bytesFrom s q first count conjunctsOf end i ≡ numbersBytes (conjunctsOf o) ++ bytesFrom s q first count conjunctsOf end (i + 1)
-    unfolding bytesFrom
-    next =
-        ap numbersBytes (rest-next s q first count conjunctsOf i end h ∙ ap (λ (p : ℕ). conjunctsOf p ++ restFrom s q first count conjunctsOf (i + 1) end) (sym e))
-        ∙ numbers-append (conjunctsOf o) (restFrom s q first count conjunctsOf (i + 1) end)
+          pub one-room : at + 1 ≤ length numbers
+          one-room = filled-room (restFrom end) all numbers₀ room numbers (o ∷ []) at i p itself-next
 
-    -- there is room for the operand's
-    pub written-room : 2 * length whole ≤ length out₀ → at + 2 * length (conjunctsOf o) ≤ length out
-    written-room r =
-        let m = filled-room (bytesFrom s q first count conjunctsOf end) (numbersBytes whole) out₀ (room r) out (numbersBytes (conjunctsOf o)) at i w next in
-        let l = numbers-length (conjunctsOf o) in
-        omega arith
-
-    -- also in the part that is lent for it
-    pub written-part : 2 * length whole ≤ length out₀ → 2 * length (conjunctsOf o) ≤ length (take (length out - at) (drop at out))
-    written-part r =
-        let m = filled-part (bytesFrom s q first count conjunctsOf end) (numbersBytes whole) out₀ (room r) out (numbersBytes (conjunctsOf o)) at i w next in
-        let l = numbers-length (conjunctsOf o) in
-        omega arith
-
-    pub written-next : (Y : List ℕ) (k n : ℕ) → 2 * length whole ≤ length out₀ → n ≡ 2 * length (conjunctsOf o) → k ≡ length out - at → Y ≡ onto (numbersBytes (conjunctsOf o)) (take k (drop at out))
-        → Written s q first count conjunctsOf out₀ (take at out ++ (Y ++ drop k (drop at out))) (at + n) (i + 1) end
-    written-next Y k n r f g y =
-        filled-next (bytesFrom s q first count conjunctsOf end) (numbersBytes whole) out₀ (room r) out (numbersBytes (conjunctsOf o)) at i w next Y k n (f ∙ sym (numbers-length (conjunctsOf o))) g y
-
-  module _ (out : List ℕ) (at i end : ℕ) (h : end ≤ i) (w : Written s q first count conjunctsOf out₀ out at i end) where
-    none : bytesFrom s q first count conjunctsOf end i ≡ []
-    unfolding bytesFrom
-    none = ap numbersBytes (rest-none s q first count conjunctsOf i end h)
-
-    pub written-length : at ≡ 2 * length whole
-    written-length = filled-length (bytesFrom s q first count conjunctsOf end) (numbersBytes whole) out₀ out at i none w ∙ numbers-length whole
-
-    pub written-all : out ≡ onto (numbersBytes whole) out₀
-    written-all = filled-all (bytesFrom s q first count conjunctsOf end) (numbersBytes whole) out₀ out at i none w
+          pub one-next : (X : List ℕ) (a : ℕ) → X ≡ set numbers at o → a ≡ at + 1 → Put numbers₀ X a (i + 1) end
+          one-next X a x b =
+              let w = put-within numbers at i end p in
+              let r = p .reached in
+              let m = one-room in
+              let long = length-append (p .done) (o ∷ []) in
+              record {
+                done = p .done ++ (o ∷ []);
+                placed = x ∙ ap (λ (l : List ℕ). set l at o) (p .placed) ∙ ap (λ (n : ℕ). set (onto (p .done) numbers₀) n o) r ∙ stored-behind (p .done) numbers₀ o (omega arith);
+                reached = omega arith;
+                left = append-assoc (p .done) (o ∷ []) (restFrom end (i + 1)) ∙ ap (λ (l : List ℕ). p .done ++ l) (sym itself-next) ∙ p .left;
+              }

@@ -3,6 +3,7 @@ use mathlib.Core.Path.{_≡_, refl}
 use mathlib.Core.List.{[], _∷_}
 use Rattle.float.specs.Option.{none}
 use Rattle.float.specs.Order.{f64Zero}
+use Rattle.estimate.specs.Estimates.{estimateOf}
 use Rattle.estimate.specs.declared.Estimate.{Estimate}
 use Rattle.estimate.specs.declared.EstimateSource.the-variants.{Catalog}
 use Rattle.records.specs.declared.expressions.NaryOp.the-variants.{And, Or}
@@ -11,7 +12,7 @@ use Rattle.sheet.specs.Sheet.{Sheet}
 use Rattle.split.specs.Conjuncts.{conjuncts}
 
 abbrev nothing : Estimate
-nothing = record { value = f64Zero; lower = none; upper = none; source = Catalog }
+nothing = estimateOf f64Zero none none Catalog
 
 -- expression 4 is an And of 2 and of 3, which is an And of 0, 1 and 0; 2 is an Or of 1
 abbrev sheet : Sheet
@@ -34,7 +35,6 @@ sheet = record {
   rightClasses = [];
   expressions = Like ∷ Other ∷ Nary Or 0 1 ∷ Nary And 1 3 ∷ Nary And 4 2 ∷ Nary And 6 0 ∷ [];
   operands = 1 ∷ 0 ∷ 1 ∷ 0 ∷ 3 ∷ 2 ∷ [];
-  conjuncts = [];
 }
 
 to-any-depth : conjuncts sheet 4 ≡ 0 ∷ 1 ∷ 0 ∷ 2 ∷ []

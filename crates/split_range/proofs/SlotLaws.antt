@@ -11,8 +11,8 @@ use Rattle.le.specs.Fields.{u16At}
 use Rattle.rules.specs.Rules.{ask, firstRefusal}
 use Rattle.rules.proofs.RuleLaws.{ask-kept, else-first, else-second, each-kept}
 use Rattle.record_rules.specs.Fields.{whole}
-use Rattle.expression_rules.specs.Operands.{expressionPlace, isNary, runsBefore, naryOf, sameOperandRefusal, sharedRefusal, operandRefusal}
-use Rattle.expression_rules.proofs.RunLaws.{RunsFollow, Holds, owner-holds}
+use Rattle.expression_rules.specs.Operands.{expressionPlace, isNary, runsBefore, naryOf, RunsFollow, sameOperandRefusal, sharedRefusal, operandRefusal}
+use Rattle.expression_rules.proofs.RunLaws.{Holds, owner-holds}
 use Rattle.expression_rules.proofs.RoomLaws.{operand-below, runs-follow}
 use Rattle.sheet.specs.Order.{sectionAt}
 use Rattle.sheet.specs.Rules.{countWithin, countRefusal}

@@ -10,7 +10,7 @@ use Rattle.float.specs.Order.{f64Zero, f64One, clampUnit, nonneg, ordinary, Uni
 use Rattle.float.specs.Option.{some}
 use Rattle.float.proofs.SignLaws.{zero-least}
 use Rattle.float.proofs.NonNegLaws.{cross-le, le-cross, lt-cross}
-use Rattle.float.proofs.UnitLaws.{zero-unit, one-unit, clamped-unit}
+use Rattle.float.proofs.UnitLaws.{one-unit, clamped-unit}
 use Rattle.estimate.specs.Estimates.{clampToBounds, derived}
 use Rattle.units.proofs.SizeLaws.{le-at-least, unit-up-to, up-to-unit, add-up-to, sub-up-to, div-up-to, clamped-up-to}
 
@@ -31,9 +31,6 @@ le-not-lt x y p q h = go (lt y x) refl
     go true e = absurd (not-le-of-lt (lt-cross y x q p e) (le-cross x y p q h))
     go false e = refl
 
-pub clamp-own : (x : Float) → Unit01 x → clampUnit x ≡ x
-clamp-own x u = rw (nonneg-not-below x (u .low), le-not-lt x f64One (u .low) tt (u .high)) refl
-
 -- ---- an estimate with the bounds 0 and 1
 pub bounded-is : (x : Float) → clampToBounds x (some f64Zero) (some f64One) ≡ clampUnit x
 unfolding clampToBounds lt
@@ -51,10 +48,6 @@ derived-is x = bounded-is x
 pub unit-estimate : (x : Float) → T (fits binary64 x) → T (ordinary x) → Unit01 (derived x (some f64Zero) (some f64One) .value)
 unit-estimate x h o = rw (derived-is x) (clamped-unit x h o)
 
--- of a value from 0 to 1 it is the value
-pub unit-estimate-own : (x : Float) → Unit01 x → derived x (some f64Zero) (some f64One) .value ≡ x
-unit-estimate-own x u = derived-is x ∙ clamp-own x u
-
 -- ---- operations
 pub complement-unit : (x : Float) → Unit01 x → Unit01 (sub binary64 f64One x)
 complement-unit x u = up-to-unit (sub binary64 f64One x) (sub-up-to 0 f64One x (lit≤ tt) (unit-up-to f64One one-unit) (u .low) (u .high))
@@ -64,6 +57,3 @@ quotient-unit x y u p h = up-to-unit (div binary64 x y) (div-up-to 0 0 x y (lit�
 
 pub sum-unit : (x y : Float) → Unit01 x → Unit01 y → Unit01 (clampUnit (add binary64 x y))
 sum-unit x y u v = clamped-up-to 1 (add binary64 x y) (add-up-to 0 x y (lit≤ tt) (unit-up-to x u) (unit-up-to y v))
-
-pub sum-zero-unit : (x : Float) → Unit01 x → Unit01 (clampUnit (add binary64 x f64Zero))
-sum-zero-unit x u = sum-unit x f64Zero u zero-unit

@@ -14,6 +14,12 @@ mod c {
         ) -> u64;
         pub fn pieces_has_number(value: *const u8, length: usize) -> bool;
         pub fn pieces_number(value: *const u8, length: usize) -> f64;
+        pub fn pieces_from_scalar(
+            value: *const u8,
+            length: usize,
+            out: *mut u8,
+            out_length: usize,
+        ) -> u64;
         pub fn pieces_has_fraction(scalars: *const u8, length: usize) -> bool;
         pub fn pieces_fraction(scalars: *const u8, length: usize) -> f64;
         pub fn pieces_distinct_intersection(
@@ -74,6 +80,11 @@ pub fn scalar_to_f64(value: &[u8]) -> Option<f64> {
         )
     };
     has.then_some(number)
+}
+
+/// Writes a scalar's encoding. The bytes written, 0 where `out` has no room.
+pub fn from_scalar(value: &[u8], out: &mut [u8]) -> u64 {
+    unsafe { c::pieces_from_scalar(value.as_ptr(), value.len(), out.as_mut_ptr(), out.len()) }
 }
 
 /// The fraction of four scalars, one behind the other.

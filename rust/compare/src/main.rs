@@ -135,6 +135,7 @@ fn main() -> ExitCode {
     };
     let mut report = Report::default();
     pieces::compare_minus_zero(&mut report);
+    pieces::compare_edge_encodings(&mut report);
     for seed in options.first..options.first.saturating_add(options.sheets) {
         compare_sheet(seed, &mut report);
     }

@@ -7,7 +7,7 @@ use oracle::analysis::{estimate_of, estimate_values, scalar_of};
 use oracle::pieces;
 use oracle::statistics::EncodedScalarValue;
 use sheet::values::{Column, Estimate, Expression, Scalar, Sheet};
-use sheet::writer::{ESTIMATE_SIZE, column_bytes, estimate_bytes, scalar_bytes};
+use sheet::writer::{ESTIMATE_SIZE, SCALAR_SIZE, column_bytes, estimate_bytes, scalar_bytes};
 use std::cmp::Ordering;
 
 /// At most so many scalars of a sheet, or columns of a side, are compared with each other.
@@ -75,14 +75,90 @@ fn same(left: Option<f64>, right: Option<f64>) -> bool {
     left.map(f64::to_bits) == right.map(f64::to_bits)
 }
 
-/// Whether the 19 bytes are the source's encoding with zeros behind it. A Null has none there.
-fn encoded(bytes: &[u8; 19], scalar: &Scalar) -> bool {
-    match EncodedScalarValue::from_scalar(&scalar_of(scalar)) {
-        None => *bytes == [0; 19],
-        Some(encoding) => {
-            let encoding = encoding.as_bytes();
-            bytes.starts_with(encoding) && bytes[encoding.len()..].iter().all(|byte| *byte == 0)
+/// The source's encoding with zeros behind it, to 19 bytes. A Null has none there.
+fn encoding(scalar: &Scalar) -> [u8; SCALAR_SIZE] {
+    let mut bytes = [0; SCALAR_SIZE];
+    if let Some(encoded) = EncodedScalarValue::from_scalar(&scalar_of(scalar)) {
+        let encoded = encoded.as_bytes();
+        bytes[..encoded.len()].copy_from_slice(encoded);
+    }
+    bytes
+}
+
+fn compare_encoding(scalar: &Scalar, report: &mut Report) {
+    let bytes = scalar_bytes(Some(scalar));
+    let agrees = agree(&encoding(scalar), SCALAR_SIZE as u64, NO_ROOM, |out| {
+        library::from_scalar(&bytes, out)
+    });
+    report.compared("EncodedScalarValue::from_scalar", agrees);
+}
+
+/// Scalars of every case with the ends of their ranges, most of which no sheet holds.
+fn edge_scalars() -> Vec<Scalar> {
+    let narrow = [0, 1, -1, i32::MIN, i32::MAX];
+    let wide = [0, 1, -1, i64::MIN, i64::MAX];
+    let floats = [
+        0.0,
+        -0.0,
+        1.5,
+        -1.5,
+        f64::MIN,
+        f64::MAX,
+        f64::MIN_POSITIVE,
+        -f64::MIN_POSITIVE,
+        f64::INFINITY,
+        f64::NEG_INFINITY,
+        f64::NAN,
+    ];
+    // The least and the largest subnormal number, and NaNs with other signs and payloads.
+    let patterns = [
+        0x0000_0000_0000_0001,
+        0x8000_0000_0000_0001,
+        0x000f_ffff_ffff_ffff,
+        0x7ff0_0000_0000_0001,
+        0x7ff8_0000_0000_0001,
+        0x7fff_ffff_ffff_ffff,
+        0xfff0_0000_0000_0001,
+        0xfff8_0000_0000_0000,
+        0xffff_ffff_ffff_ffff,
+    ];
+    let floats = floats.into_iter().chain(patterns.map(f64::from_bits));
+    let mut scalars = vec![Scalar::Null, Scalar::Boolean(false), Scalar::Boolean(true)];
+    scalars.extend(narrow.map(Scalar::Int32));
+    scalars.extend(narrow.map(Scalar::Date32));
+    scalars.extend(wide.map(Scalar::Int64));
+    scalars.extend(floats.map(Scalar::Float64));
+    for value in wide {
+        for precision in [0, 1, 38, u8::MAX] {
+            for scale in [0, 1, 22, u8::MAX] {
+                scalars.push(Scalar::Decimal128 {
+                    precision,
+                    scale,
+                    value,
+                });
+            }
         }
+    }
+    for days in narrow {
+        for other in narrow {
+            scalars.push(Scalar::IntervalDayTime {
+                days,
+                milliseconds: other,
+            });
+            scalars.extend(wide.map(|nanoseconds| Scalar::IntervalMonthDayNano {
+                months: other,
+                days,
+                nanoseconds,
+            }));
+        }
+    }
+    scalars
+}
+
+/// What no sheet asks: encodings of -0, of NaNs, of infinities and of all that is largest or least.
+pub fn compare_edge_encodings(report: &mut Report) {
+    for scalar in edge_scalars() {
+        compare_encoding(&scalar, report);
     }
 }
 
@@ -92,8 +168,9 @@ fn compare_scalars(sheet: &Sheet, report: &mut Report) {
         let bytes = scalar_bytes(Some(left));
         report.held(
             "a scalar's bytes are the source's encoding",
-            encoded(&bytes, left),
+            bytes == encoding(left),
         );
+        compare_encoding(left, report);
         let number = pieces::number(&scalar_of(left));
         report.compared(
             "scalar_to_f64",

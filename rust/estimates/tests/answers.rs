@@ -91,6 +91,15 @@ fn marked_predicates_and_splits() {
     assert_eq!(split(&nary, 6), Ok(vec![0, 2, 1]));
 }
 
+/// The rows of an empty sketch are spread over all distinct values; without it the frequency's are.
+#[test]
+fn a_sketch_without_items() {
+    let mut sheet = samples::an_empty_sketch();
+    assert_eq!(predicate(&write(&sheet), 2).unwrap().value, 0.1);
+    sheet.columns[0][0].sketch = None;
+    assert_eq!(predicate(&write(&sheet), 2).unwrap().value, 0.075);
+}
+
 /// As many Ands inside each other as a sheet can have.
 #[test]
 fn the_deepest_expression() {

@@ -79,6 +79,32 @@ fn sketch_of(values: &[Scalar]) -> Sketch {
     }
 }
 
+/// Expression 2: column 1 is 3. The column has a sketch without items.
+pub fn an_empty_sketch() -> Sheet {
+    let column = Column {
+        frequency: from_catalog(75.0),
+        sketch: Some(0),
+        ..column(1)
+    };
+    Sheet {
+        sketches: vec![Sketch {
+            population: 100,
+            items: vec![],
+        }],
+        columns: [vec![column], vec![]],
+        expressions: vec![
+            Expression::Column(1),
+            Expression::Literal(Scalar::Int32(3)),
+            Expression::Binary {
+                op: 0,
+                left: 0,
+                right: 1,
+            },
+        ],
+        ..empty()
+    }
+}
+
 fn tables() -> Vec<Table> {
     let table = |table, rows| Table { table, rows };
     vec![

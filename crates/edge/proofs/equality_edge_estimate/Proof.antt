@@ -25,13 +25,13 @@ hint-requires-2 : tie.Need-hint-requires-2
 hint-requires-2 c κs = search needs
 
 oriented-estimate-requires : tie.Need-oriented-estimate-requires
-oriented-estimate-requires c κs = oriented-found _ _ _ _ _ _ _ (sym (c .before .before .before .before .before .oriented-join-columns .ensures) ∙ c .before .before .before .oriented .given .1)
+oriented-estimate-requires c κs = oriented-found _ _ _ _ _ _ _ (sym (c .before .before .before .before .before .before .oriented-join-columns .ensures) ∙ c .before .before .before .before .oriented .given .1)
 
 returns : tie.Need-returns
-returns c = c .unoriented-estimate .ensures ∙ estimate-unoriented _ _ _ _ _ _ (sym (c .before .before .before .oriented-join-columns .ensures) ∙ c .before .enum-told .given .1)
+returns c = c .unoriented-estimate .ensures ∙ estimate-unoriented _ _ (sym (c .before .before .before .oriented-join-columns .ensures) ∙ c .before .enum-told .given .1)
 
 returns-2 : tie.Need-returns-2
-returns-2 c = c .oriented-estimate .ensures ∙ estimate-oriented _ _ _ _ _ _ _ _ _ _ _ _ (sym (c .before .before .before .before .before .before .oriented-join-columns .ensures) ∙ c .before .before .before .before .oriented .given .1) (c .before .before .hint .ensures) (c .before .hint2 .ensures)
+returns-2 c = c .oriented-estimate .ensures ∙ estimate-oriented _ _ _ _ _ _ _ _ (sym (c .before .before .before .before .before .before .before .oriented-join-columns .ensures) ∙ c .before .before .before .before .before .oriented .given .1) (c .before .before .hint .ensures) (c .before .hint2 .ensures)
 
 pub equality-edge-estimate-spec : {M : Type 1} → statement M
 equality-edge-estimate-spec =

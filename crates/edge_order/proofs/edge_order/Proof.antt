@@ -3,14 +3,14 @@ use Prim.Native.Nat.{_≤_, _-_, _+_}
 use mathlib.Core.Path.{_≡_, refl}
 use native.Mathlib.Omega.{arith}
 use borrow.Author.Needs.{needs}
-use lib.ListN.{length, drop}
+use lib.ListN.{length}
 use Rattle.edge_order.specs.Order.{numberBefore, edgeOrder}
-use Rattle.edge_order.proofs.OrderLaws.{sortedFrom, order-first, order-next, order-all}
+use Rattle.edge_order.proofs.OrderLaws.{orderedFrom, order-first, order-next, order-all}
 use Rattle.edge_order.proofs.edge_order.Statement.{statement}
 use Rattle.edge_order.proofs.edge_order.Tie as tie
 
 abbrev Inv-loop : tie.InvT-loop
-Inv-loop distincts null-safes n order₀ k₀ order k = (k ≤ n) × ((n ≤ 64) × ((length order₀ ≡ 64) × ((length order ≡ length order₀) × (drop (64 - n + k) order ≡ sortedFrom (numberBefore distincts null-safes) n k))))
+Inv-loop distincts null-safes n order₀ k₀ order k = (k ≤ n) × ((n ≤ 64) × ((length order₀ ≡ 64) × ((length order ≡ length order₀) × (order ≡ orderedFrom (numberBefore distincts null-safes) n order₀ k))))
 
 abbrev μ-loop : tie.MeasureT-loop
 μ-loop distincts null-safes n order₀ k₀ order k = k
@@ -37,14 +37,14 @@ loop-less : tie.Need-loop-less Inv-loop μ-loop
 loop-less c = search needs
 
 loop-again : tie.Need-loop-again Inv-loop μ-loop
-loop-again c = let l = c .before .before .before .before .before .loop in (omega arith, (l .inv .1 .0, (l .inv .1 .1 .0, (search needs, order-next _ _ _ _ _ (c .before .before .before .before .loop-test .taken) (l .inv .0) (l .inv .1 .1 .1 .1) (c .before .before .place .ensures)))))
+loop-again c = let l = c .before .before .before .before .before .loop in (omega arith, (l .inv .1 .0, (l .inv .1 .1 .0, (search needs, order-next _ _ _ _ _ _ (l .inv .1 .1 .0) (l .inv .1 .0) (c .before .before .before .before .loop-test .taken) (l .inv .0) (l .inv .1 .1 .1 .1) (c .before .before .place .ensures)))))
 
 same-length : tie.Need-same-length Inv-loop μ-loop
 same-length c = search needs
 
 returns : tie.Need-returns Inv-loop μ-loop
 unfolding edgeOrder
-returns c = order-all _ _ _ _ (c .loop-test .left) (c .before .loop .inv .1 .1 .1 .1)
+returns c = order-all _ _ _ _ _ (c .loop-test .left) (c .before .loop .inv .1 .1 .1 .1)
 
 pub edge-order-spec : {M : Type 1} → statement M
 edge-order-spec =

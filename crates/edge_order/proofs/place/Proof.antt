@@ -4,7 +4,8 @@ use mathlib.Core.Path.{_≡_, refl, sym, _∙_}
 use native.Mathlib.Omega.{arith}
 use borrow.Author.Needs.{needs}
 use borrow.Author.Tests.{not-true, not-false}
-use lib.ListN.{length, length-set, drop}
+use mathlib.Core.List.{_++_}
+use lib.ListN.{length, length-set, take, drop}
 use Rattle.edge_order.specs.Sort.{insert}
 use Rattle.edge_order.specs.Order.{numberBefore}
 use Rattle.edge_order.proofs.PlaceLaws.{placing, place-first, place-past, place-here, place-last}
@@ -12,13 +13,13 @@ use Rattle.edge_order.proofs.place.Statement.{statement}
 use Rattle.edge_order.proofs.place.Tie as tie
 
 abbrev Inv-loop : tie.InvT-loop
-Inv-loop distincts null-safes order₀ at x j₀ order j = (at ≤ j) × ((j ≤ 63) × ((length order₀ ≡ 64) × ((length order ≡ length order₀) × (placing (numberBefore distincts null-safes) x at order j ≡ insert (numberBefore distincts null-safes) x (drop (at + 1) order₀)))))
+Inv-loop distincts null-safes order₀ at x j₀ order j = (j ≤ 63) × ((length order₀ ≡ 64) × ((length order ≡ length order₀) × (placing (numberBefore distincts null-safes) x order j ≡ take at order₀ ++ insert (numberBefore distincts null-safes) x (drop (at + 1) order₀))))
 
 abbrev μ-loop : tie.MeasureT-loop
 μ-loop distincts null-safes order₀ at x j₀ order j = 63 - j
 
 loop-holds : tie.Need-loop-holds Inv-loop μ-loop
-loop-holds c = (omega arith, (omega arith, (c .before .before .before .pre .1, (refl, place-first _ _ _ _))))
+loop-holds c = (omega arith, (c .before .before .before .pre .1, (refl, place-first _ _ _ _)))
 
 add-y : tie.Need-add-y Inv-loop μ-loop
 add-y c = search needs
@@ -36,7 +37,7 @@ same-length : tie.Need-same-length Inv-loop μ-loop
 same-length c = search needs
 
 returns : tie.Need-returns Inv-loop μ-loop
-returns c = let l = c .before .before .before .before .loop in place-here _ _ _ _ _ 0 _ (l .inv .0) (omega arith) refl (sym (c .before .number-before .ensures) ∙ not-true _ (c .if1 .taken)) ∙ l .inv .1 .1 .1 .1
+returns c = let l = c .before .before .before .before .loop in place-here _ _ _ _ 0 _ (omega arith) refl (sym (c .before .number-before .ensures) ∙ not-true _ (c .if1 .taken)) ∙ l .inv .1 .1 .1
 
 slice-write-order-2 : tie.Need-slice-write-order-2 Inv-loop μ-loop
 slice-write-order-2 c = search needs
@@ -48,7 +49,7 @@ loop-less : tie.Need-loop-less Inv-loop μ-loop
 loop-less c = search needs
 
 loop-again : tie.Need-loop-again Inv-loop μ-loop
-loop-again c = let l = c .before .before .before .before .loop in (omega arith, (omega arith, (l .inv .1 .1 .0, (simp length-set (l .inv .1 .1 .1 .0), place-past _ _ _ _ _ 0 _ (l .inv .0) (omega arith) refl (sym (c .before .number-before .ensures) ∙ not-false _ (c .if1 .left)) ∙ l .inv .1 .1 .1 .1))))
+loop-again c = let l = c .before .before .before .before .loop in (omega arith, (l .inv .1 .0, (simp length-set (l .inv .1 .1 .0), place-past _ _ _ _ 0 _ (omega arith) refl (sym (c .before .number-before .ensures) ∙ not-false _ (c .if1 .left)) ∙ l .inv .1 .1 .1)))
 
 slice-write-order-3 : tie.Need-slice-write-order-3 Inv-loop μ-loop
 slice-write-order-3 c = search needs
@@ -57,7 +58,7 @@ same-length-2 : tie.Need-same-length-2 Inv-loop μ-loop
 same-length-2 c = search needs
 
 returns-2 : tie.Need-returns-2 Inv-loop μ-loop
-returns-2 c = let l = c .before .loop in place-last _ _ _ _ _ (l .inv .0) (omega arith) (omega arith) ∙ l .inv .1 .1 .1 .1
+returns-2 c = let l = c .before .loop in place-last _ _ _ _ (omega arith) (omega arith) ∙ l .inv .1 .1 .1
 
 pub place-spec : {M : Type 1} → statement M
 place-spec =

@@ -4,6 +4,7 @@ use Rattle.answers.proofs.AnswerLaws.{refused, sheet-refused, sheet-accepted, c
 use Rattle.sheet.specs.Sheet.{Sheet}
 use Rattle.answers.specs.Answers.{namedResult, expressionResult}
 use Rattle.expression_answer.specs.Question.{answerBytes}
+use Rattle.expression_answer.proofs.SplitLaws.{split-most}
 use Rattle.expression_answer.proofs.answer_expression.Statement.{statement}
 use Rattle.expression_answer.proofs.answer_expression.Tie as tie
 
@@ -17,7 +18,9 @@ enum-known-checked-2 : tie.Need-enum-known-checked-2
 enum-known-checked-2 c = search needs
 
 write-named-requires : tie.Need-write-named-requires
-write-named-requires c κs = search needs
+write-named-requires c κs =
+    let args = c .before .before .before .before .before .before .before .args in
+    split-most (args .s .now) _ _ (args .e) (c .before .before .before .before .check .ensures) (c .before .before .checked2 .given .1)
 
 returns : tie.Need-returns
 unfolding expressionResult

@@ -32,7 +32,7 @@ returns c = let p = c .before .before in
     let u = p .before .before .before .before in
     let z = u .before .before .before .before .before in
     let at = u .put-coverages-part .ensures .0 in
-    onto-part _ _ (z .args .out .now) _ _ _ _ (coverages-part-length (z .args .n) (z .args .bytes .now) (z .pre .1) ∙ sym at) refl (omega arith) (u .put-coverages-part .ensures .1) (p .put-columns-part .ensures)
+    onto-part _ _ (z .args .out .now) _ _ _ _ (coverages-part-length (z .args .n) (z .args .bytes .now) (z .pre .2) ∙ sym at) refl (omega arith) (u .put-coverages-part .ensures .1) (p .put-columns-part .ensures)
 
 pub put-behind-classes-spec : {M : Type 1} → statement M
 put-behind-classes-spec =

@@ -8,11 +8,8 @@ use borrow.Author.Needs.{needs}
 use Rattle.join_parts.proofs.put_columns_part.Statement.{statement}
 use Rattle.join_parts.proofs.put_columns_part.Tie as tie
 
-marked-count-requires : tie.Need-marked-count-requires
-marked-count-requires c κs = search needs
-
 cast-put-u16 : tie.Need-cast-put-u16
-cast-put-u16 c = let b = marked-below (c .before .before .before .before .args .marks .now) in omega arith
+cast-put-u16 c = let b = marked-below (c .before .before .before .args .marks .now) in omega arith
 
 put-u16-requires : tie.Need-put-u16-requires
 put-u16-requires c κs = search needs
@@ -36,14 +33,13 @@ returns : tie.Need-returns
 unfolding columnsPart
 returns c = let p = c .before .before in
     let u = p .before .before .before .before in
-    let a = u .before .before .before .before .before .args in
-    counted-written _ _ _ _ (a .out .now) _ _ (u .before .marked-count .ensures) (omega arith) (u .put-u16 .ensures) refl (p .put-marked .ensures .1)
+    let start = u .before .before .before .before in
+    counted-written _ _ _ _ (start .args .out .now) _ _ (start .pre .0) (omega arith) (u .put-u16 .ensures) refl (p .put-marked .ensures .1)
 
 pub put-columns-part-spec : {M : Type 1} → statement M
 put-columns-part-spec =
     tie.close
     (tie.spec
-    marked-count-requires
     cast-put-u16
     put-u16-requires
     sub-put-marked

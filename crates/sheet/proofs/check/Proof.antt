@@ -9,18 +9,23 @@ use Rattle.rules.proofs.RuleLaws.{rest-next, rest-broken, rest-none}
 use Rattle.rules.specs.Rules.{firstRefusal}
 use lib.ListN.{length}
 use borrow.Author.Needs.{needs}
+use borrow.Author.Count.{below-more}
+use Rattle.sheet.proofs.OwnerLaws.{runs-known}
 use native.Mathlib.Nat.{le-antisymm}
 use native.Mathlib.Omega.{arith}
-use Prim.Native.Nat.{ℕ, _≤_, _+_, _-_}
+use Prim.Native.Nat.{ℕ, _≤_, _<_, _+_, _-_}
 use mathlib.Core.Path.{_≡_, refl, sym, _∙_, ap, subst}
 use Rattle.sheet.proofs.check.Statement.{statement}
 use Rattle.sheet.proofs.check.Tie as tie
+
+none : (j : ℕ) → j < 0 → ⊥
+none j h = omega arith
 
 abbrev Inv-loop : tie.InvT-loop
 Inv-loop s starts₀ at₀ k₀ starts at k =
     (firstRefusal (refusalIn s) k (12 - k) ≡ firstRefusal (refusalIn s) 0 12)
     × ((starts ≡ startsBefore s k) × (at ≡ sectionAt s k))
-    × ((k ≤ 12) × ((at ≤ length s) × ((length s ≤ 65535) × Short starts)))
+    × ((k ≤ 12) × ((at ≤ length s) × ((length s ≤ 65535) × (Short starts × ((j : ℕ) → j < k → refusalIn s j ≡ 0)))))
 
 abbrev μ-loop : tie.MeasureT-loop
 μ-loop s starts₀ at₀ k₀ starts at k = 12 - k
@@ -30,7 +35,7 @@ returns c = sheet-long _ (c .if1 .taken)
 
 loop-holds : tie.Need-loop-holds Inv-loop μ-loop
 unfolding startsBefore sectionAt
-loop-holds c = (refl, (refl, refl), (omega arith, (omega arith, (c .if1 .left, short-none))))
+loop-holds c = (refl, (refl, refl), (omega arith, (omega arith, (c .if1 .left, (short-none, λ (j : ℕ) (h : j < 0). absurd (none j h))))))
 
 cast-starts : tie.Need-cast-starts Inv-loop μ-loop
 cast-starts c = omega arith
@@ -48,16 +53,16 @@ array-read-section : tie.Need-array-read-section Inv-loop μ-loop
 array-read-section c = search needs
 
 cast-section : tie.Need-cast-section Inv-loop μ-loop
-cast-section c = let few = short-set (c .before .before .loop .starts) (c .before .before .loop .k) (c .before .before .loop .at) (omega arith) (c .before .before .loop .inv .2 .1 .1 .1) .each 2 in omega arith
+cast-section c = let few = short-set (c .before .before .loop .starts) (c .before .before .loop .k) (c .before .before .loop .at) (omega arith) (c .before .before .loop .inv .2 .1 .1 .1 .0) .each 2 in omega arith
 
 array-read-section-2 : tie.Need-array-read-section-2 Inv-loop μ-loop
 array-read-section-2 c = search needs
 
 cast-section-2 : tie.Need-cast-section-2 Inv-loop μ-loop
-cast-section-2 c = let few = short-set (c .before .before .loop .starts) (c .before .before .loop .k) (c .before .before .loop .at) (omega arith) (c .before .before .loop .inv .2 .1 .1 .1) .each 9 in omega arith
+cast-section-2 c = let few = short-set (c .before .before .loop .starts) (c .before .before .loop .k) (c .before .before .loop .at) (omega arith) (c .before .before .loop .inv .2 .1 .1 .1 .0) .each 9 in omega arith
 
 section-requires : tie.Need-section-requires Inv-loop μ-loop
-section-requires c κs = ((omega arith, omega arith), short-set (c .before .before .loop .starts) (c .before .before .loop .k) (c .before .before .loop .at) (omega arith) (c .before .before .loop .inv .2 .1 .1 .1) .each 9)
+section-requires c κs = (((omega arith, omega arith), runs-known _ _ _ _ _ (c .before .before .loop .inv .1 .0) (c .kind-at .ensures) (c .before .before .loop .inv .2 .1 .1 .1 .1)), short-set (c .before .before .loop .starts) (c .before .before .loop .k) (c .before .before .loop .at) (omega arith) (c .before .before .loop .inv .2 .1 .1 .1 .0) .each 9)
 
 enum-known-reached : tie.Need-enum-known-reached Inv-loop μ-loop
 enum-known-reached c = search needs
@@ -88,7 +93,7 @@ loop-again c =
     let room = next-room _ (l .k) (back .0) in (
       rest-next _ _ _ _ (l .inv .0) (c .before .before .before .before .before .loop-test .taken) (back .0),
       (rw (l .inv .1 .0, l .inv .1 .1) (starts-next _ (l .k)), back .1),
-      (omega arith, (subst (λ (at : ℕ). at ≤ length s) (sym (back .1)) room, (l .inv .2 .1 .1 .0, short-set (l .starts) (l .k) (l .at) (omega arith) (l .inv .2 .1 .1 .1)))),
+      (omega arith, (subst (λ (at : ℕ). at ≤ length s) (sym (back .1)) room, (l .inv .2 .1 .1 .0, (short-set (l .starts) (l .k) (l .at) (omega arith) (l .inv .2 .1 .1 .1 .0), below-more (λ (j : ℕ). refusalIn s j ≡ 0) (l .k) (l .inv .2 .1 .1 .1 .1) (back .0))))),
     )
 
 ask-requires : tie.Need-ask-requires Inv-loop μ-loop

@@ -23,8 +23,8 @@ none-requires-2 c κs = search needs
 enum-known-right-sketch : tie.Need-enum-known-right-sketch
 enum-known-right-sketch c = search needs
 
-numbered-join-requires : tie.Need-numbered-join-requires
-numbered-join-requires c κs = search needs
+join-by-number-requires : tie.Need-join-by-number-requires
+join-by-number-requires c κs = search needs
 
 returns : tie.Need-returns
 unfolding sketchJoinEstimate
@@ -36,7 +36,7 @@ returns-2 c = rw (c .none2 .ensures, c .before .before .before .before .left-ske
 
 returns-3 : tie.Need-returns-3
 unfolding sketchJoinEstimate
-returns-3 c = rw (c .numbered-join .ensures, c .before .before .before .before .before .left-sketch .given .1, c .before .before .right-sketch .given .1) refl
+returns-3 c = rw (c .join-by-number .ensures, c .before .before .before .before .before .left-sketch .given .1, c .before .before .right-sketch .given .1) refl
 
 pub sketch-join-estimate-spec : {M : Type 1} → statement M
 sketch-join-estimate-spec =
@@ -48,7 +48,7 @@ sketch-join-estimate-spec =
     enum-told-2
     none-requires-2
     enum-known-right-sketch
-    numbered-join-requires
+    join-by-number-requires
     returns
     returns-2
     returns-3)

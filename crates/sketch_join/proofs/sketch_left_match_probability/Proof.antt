@@ -23,8 +23,8 @@ none-requires-2 c κs = search needs
 enum-known-right-sketch : tie.Need-enum-known-right-sketch
 enum-known-right-sketch c = search needs
 
-numbered-match-requires : tie.Need-numbered-match-requires
-numbered-match-requires c κs = search needs
+match-by-number-requires : tie.Need-match-by-number-requires
+match-by-number-requires c κs = search needs
 
 returns : tie.Need-returns
 unfolding sketchLeftMatchProbability
@@ -36,7 +36,7 @@ returns-2 c = rw (c .none2 .ensures, c .before .before .before .before .left-ske
 
 returns-3 : tie.Need-returns-3
 unfolding sketchLeftMatchProbability
-returns-3 c = rw (c .numbered-match .ensures, c .before .before .before .before .before .left-sketch .given .1, c .before .before .right-sketch .given .1) refl
+returns-3 c = rw (c .match-by-number .ensures, c .before .before .before .before .before .left-sketch .given .1, c .before .before .right-sketch .given .1) refl
 
 pub sketch-left-match-probability-spec : {M : Type 1} → statement M
 sketch-left-match-probability-spec =
@@ -48,7 +48,7 @@ sketch-left-match-probability-spec =
     enum-told-2
     none-requires-2
     enum-known-right-sketch
-    numbered-match-requires
+    match-by-number-requires
     returns
     returns-2
     returns-3)

@@ -3,21 +3,15 @@ use Prim.Native.Nat.{ℕ, _+_}
 use mathlib.Core.Path.{refl, ap, _∙_}
 use mathlib.Core.List.{List}
 use native.Mathlib.Omega.{arith}
-use borrow.Author.Needs.{needs}
 use Rattle.le.specs.Fields.{fieldBytes, onto}
 use Rattle.le.proofs.OntoLaws.{onto-part}
 use Rattle.class_state.proofs.ReturnedLaws.{head-length, class-written}
+use borrow.Author.Needs.{needs}
 use Rattle.class_state.proofs.returned.put_class.Statement.{statement}
 use Rattle.class_state.proofs.returned.put_class.Tie as tie
 
 put-u16-requires : tie.Need-put-u16-requires
 put-u16-requires c κs = search needs
-
-place-of-requires : tie.Need-place-of-requires
-place-of-requires c κs = search needs
-
-distinct-at-requires : tie.Need-distinct-at-requires
-distinct-at-requires c κs = search needs
 
 sub-put-estimate : tie.Need-sub-put-estimate
 sub-put-estimate c = search needs
@@ -54,20 +48,18 @@ unfolding fieldBytes
 returns c =
     let p3 = c .before .before in
     let p2 = p3 .before .before .before .before in
-    let p1 = p2 .before .before .before .before .before .before in
-    let start = p1 .before .before .before .before .before .before in
+    let p1 = p2 .before .before .before .before in
+    let start = p1 .before .before .before .before in
     let a = start .args in
     let x2 = onto-part _ _ _ _ _ 2 _ refl refl (omega arith) (p1 .put-u16 .ensures) (p2 .put-estimate .ensures) in
     let x3 = onto-part _ _ _ _ _ 28 _ (head-length (a .count) _) refl (omega arith) x2 (p3 .put-members .ensures .1) in
-    (ap (λ (n : ℕ). 28 + n) (p3 .put-members .ensures .0), x3 ∙ ap (λ (bs : List ℕ). onto bs (a .out .now)) (class-written (a .roots .now) (a .s .now) (a .q) (a .places .now) (a .root) _ _ _ (start .pre .0) (p2 .before .before .before .place-of .ensures) (p2 .before .before .distinct-at .ensures)))
+    (ap (λ (n : ℕ). 28 + n) (p3 .put-members .ensures .0), x3 ∙ ap (λ (bs : List ℕ). onto bs (a .out .now)) (class-written (a .roots .now) (a .root) (a .count) (start .pre .0) (a .distinct)))
 
 pub put-class-spec : {M : Type 1} → statement M
 put-class-spec =
     tie.close
     (tie.spec
     put-u16-requires
-    place-of-requires
-    distinct-at-requires
     sub-put-estimate
     part-put-estimate-start
     part-put-estimate-end

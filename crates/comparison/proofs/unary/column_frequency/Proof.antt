@@ -2,6 +2,7 @@
 use borrow.Author.Tests.{eq-eqb, ne-eqb}
 use mathlib.Core.Path.{refl}
 use borrow.Author.Needs.{needs}
+use Rattle.lookup.proofs.LookupLaws.{placed-profile}
 use Rattle.comparison.proofs.unary.column_frequency.Statement.{statement}
 use Rattle.comparison.proofs.unary.column_frequency.Tie as tie
 
@@ -12,7 +13,7 @@ none-requires : tie.Need-none-requires
 none-requires c κs = search needs
 
 returns : tie.Need-returns
-returns c = rw (c .none .ensures, ← c .before .before .before .profile-place .ensures .0, eq-eqb _ 0 (c .before .if1 .taken)) refl
+returns c = rw (c .none .ensures, ← placed-profile _ _ _ _ (c .before .before .before .profile-place .ensures .0), eq-eqb _ 0 (c .before .if1 .taken)) refl
 
 frequency-at-requires : tie.Need-frequency-at-requires
 frequency-at-requires c κs = search needs
@@ -21,7 +22,7 @@ some-requires : tie.Need-some-requires
 some-requires c κs = search needs
 
 returns-2 : tie.Need-returns-2
-returns-2 c = rw (c .some .ensures, c .before .frequency-at .ensures, ← c .before .before .before .before .profile-place .ensures .0, ne-eqb _ 0 (c .before .before .if1 .left)) refl
+returns-2 c = rw (c .some .ensures, c .before .frequency-at .ensures, ← placed-profile _ _ _ _ (c .before .before .before .before .profile-place .ensures .0), ne-eqb _ 0 (c .before .before .if1 .left)) refl
 
 pub column-frequency-spec : {M : Type 1} → statement M
 column-frequency-spec =

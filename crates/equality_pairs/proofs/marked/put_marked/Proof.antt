@@ -13,21 +13,16 @@ use Rattle.equality_pairs.proofs.marked.put_marked.Statement.{statement
 use Rattle.equality_pairs.proofs.marked.put_marked.Tie as tie
 
 abbrev Inv-loop : tie.InvT-loop
-Inv-loop marks out₀ size at₀ i₀ out at i = (size ≡ 2 * length (markedColumns marks)) × (length out ≡ length out₀) × (at ≤ length out) × Written (isMarked marks) 128 out₀ out at i
+Inv-loop marks count out₀ size at₀ i₀ out at i = (size ≡ 2 * length (markedColumns marks)) × (length out ≡ length out₀) × (at ≤ length out) × Written (isMarked marks) 128 out₀ out at i
 
 abbrev μ-loop : tie.MeasureT-loop
-μ-loop marks out₀ size at₀ i₀ out at i = 128 - i
-
-marked-count-requires : tie.Need-marked-count-requires Inv-loop μ-loop
-marked-count-requires c κs = tt
+μ-loop marks count out₀ size at₀ i₀ out at i = 128 - i
 
 mul-size : tie.Need-mul-size Inv-loop μ-loop
-mul-size c = let b = marked-below (c .before .before .before .args .marks .now) in
-    let e = c .marked-count .ensures in
-    omega arith
+mul-size c = let b = marked-below (c .before .before .args .marks .now) in omega arith
 
 loop-holds : tie.Need-loop-holds Inv-loop μ-loop
-loop-holds c = let e = c .marked-count .ensures in (omega arith, refl, omega arith, written-first _ _ _)
+loop-holds c = (omega arith, refl, omega arith, written-first _ _ _)
 
 sub-put-if : tie.Need-sub-put-if Inv-loop μ-loop
 sub-put-if c = omega arith
@@ -42,41 +37,41 @@ is-marked-requires : tie.Need-is-marked-requires Inv-loop μ-loop
 is-marked-requires c κs = search needs
 
 put-if-requires : tie.Need-put-if-requires Inv-loop μ-loop
-put-if-requires c κs = let start = c .before .before .before .before .before .before .before in
+put-if-requires c κs = let start = c .before .before .before .before .before .before in
     let a = start .args in
     let l = c .before .before .before .loop in
     let h = stands-below (a .marks .now) (a .out .now) (l .out) (l .at) (l .i) _ (l .inv .0) (l .inv .3) (c .before .before .loop-test .taken) in
-    rw (c .is-marked .ensures) (written-part (isMarked (a .marks .now)) 128 (a .out .now) _ _ _ h (l .inv .3) (whole (a .marks .now) _ (start .pre)))
+    rw (c .is-marked .ensures) (written-part (isMarked (a .marks .now)) 128 (a .out .now) _ _ _ h (l .inv .3) (whole (a .marks .now) _ (start .pre .1)))
 
 add-at : tie.Need-add-at Inv-loop μ-loop
-add-at c = let start = c .before .before .before .before .before .before .before .before .before .before in
+add-at c = let start = c .before .before .before .before .before .before .before .before .before in
     let a = start .args in
     let l = c .before .before .before .before .before .before .loop in
     let h = stands-below (a .marks .now) (a .out .now) (l .out) (l .at) (l .i) _ (l .inv .0) (l .inv .3) (c .before .before .before .before .before .loop-test .taken) in
-    let r = written-room (isMarked (a .marks .now)) 128 (a .out .now) _ _ _ h (l .inv .3) (whole (a .marks .now) _ (start .pre)) in
+    let r = written-room (isMarked (a .marks .now)) 128 (a .out .now) _ _ _ h (l .inv .3) (whole (a .marks .now) _ (start .pre .1)) in
     let n = c .before .before .put-if .ensures .0 ∙ ap (λ (b : Bool). 2 * length (cond b (l .i ∷ []) [])) (c .before .before .before .is-marked .ensures) in
     omega arith
 
 add-i : tie.Need-add-i Inv-loop μ-loop
-add-i c = let start = c .before .before .before .before .before .before .before .before .before .before in
+add-i c = let start = c .before .before .before .before .before .before .before .before .before in
     let a = start .args in
     let l = c .before .before .before .before .before .before .loop in
     let h = stands-below (a .marks .now) (a .out .now) (l .out) (l .at) (l .i) _ (l .inv .0) (l .inv .3) (c .before .before .before .before .before .loop-test .taken) in
     omega arith
 
 loop-less : tie.Need-loop-less Inv-loop μ-loop
-loop-less c = let start = c .before .before .before .before .before .before .before .before .before .before in
+loop-less c = let start = c .before .before .before .before .before .before .before .before .before in
     let a = start .args in
     let l = c .before .before .before .before .before .before .loop in
     let h = stands-below (a .marks .now) (a .out .now) (l .out) (l .at) (l .i) _ (l .inv .0) (l .inv .3) (c .before .before .before .before .before .loop-test .taken) in
     omega arith
 
 loop-again : tie.Need-loop-again Inv-loop μ-loop
-loop-again c = let start = c .before .before .before .before .before .before .before .before .before .before in
+loop-again c = let start = c .before .before .before .before .before .before .before .before .before in
     let a = start .args in
     let l = c .before .before .before .before .before .before .loop in
     let h = stands-below (a .marks .now) (a .out .now) (l .out) (l .at) (l .i) _ (l .inv .0) (l .inv .3) (c .before .before .before .before .before .loop-test .taken) in
-    let r = whole (a .marks .now) _ (start .pre) in
+    let r = whole (a .marks .now) _ (start .pre .1) in
     let p = c .before .before .put-if .ensures in
     let m = c .before .before .before .is-marked .ensures in
     let w = written-next (isMarked (a .marks .now)) 128 (a .out .now) _ _ _ h (l .inv .3) _ _ _ r (p .0 ∙ ap (λ (b : Bool). 2 * length (cond b (l .i ∷ []) [])) m) refl (p .1 ∙ rw m refl) in
@@ -88,7 +83,7 @@ same-length c = search needs
 
 returns : tie.Need-returns Inv-loop μ-loop
 unfolding markedColumns
-returns c = let a = c .before .before .before .before .before .args in
+returns c = let a = c .before .before .before .before .args in
     let l = c .before .loop in
     let d = whole (a .marks .now) (l .at) (let e = l .inv .0 in let h = c .loop-test .left in omega arith) in
     (written-length (isMarked (a .marks .now)) 128 (a .out .now) _ _ _ d (l .inv .3), written-all (isMarked (a .marks .now)) 128 (a .out .now) _ _ _ d (l .inv .3))
@@ -99,7 +94,6 @@ put-marked-spec =
     (tie.spec
     Inv-loop
     μ-loop
-    marked-count-requires
     mul-size
     loop-holds
     sub-put-if

@@ -1,7 +1,7 @@
--- A pass that changes nothing is the last, and any other leaves one less to go. Assumes nothing.
+-- A pass that extends nothing is the last, and any other leaves one less to go. Assumes nothing.
 use mathlib.Core.List.{List}
 use mathlib.Core.Bool.{Bool}
-use mathlib.Core.Path.{_≡_, refl, _∙_}
+use mathlib.Core.Path.{_≡_, refl, sym, _∙_}
 use native.Mathlib.Omega.{arith}
 use borrow.Author.Tests.{not-true}
 use borrow.Author.Needs.{needs}
@@ -31,7 +31,7 @@ returns : tie.Need-returns Inv-loop μ-loop
 returns c = let l = c .before .before .before .before .before .before .loop in
     let a = c .before .before .before .before .before .before .before .before .before .before .args in
     let p = c .before .before .before .pass .ensures in
-    λ (nullSafes : List Bool). passes-last (pairsIn (a .lefts .now) (a .rights .now) nullSafes (a .n)) (l .k) (l .marks) _ (p .0 nullSafes) (p .1 (not-true _ (c .if1 .taken))) ∙ l .inv .1 nullSafes
+    λ (nullSafes : List Bool). passes-last (pairsIn (a .lefts .now) (a .rights .now) nullSafes (a .n)) (l .k) (l .marks) _ (p .0 nullSafes) (sym (p .1 nullSafes) ∙ not-true _ (c .if1 .taken)) ∙ l .inv .1 nullSafes
 
 sub-k : tie.Need-sub-k Inv-loop μ-loop
 sub-k c = omega arith

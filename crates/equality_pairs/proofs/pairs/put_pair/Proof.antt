@@ -1,8 +1,5 @@
 -- A pair is stored behind the others, or there is none. Assumes nothing.
-use Prim.Native.Nat.{_<_}
-use native.Mathlib.Omega.{arith}
 use borrow.Author.Needs.{needs}
-use lib.ListN.{length}
 use Rattle.sheet.specs.Sheet.{sheetOf}
 use Rattle.equality_pairs.proofs.PairLaws.{absent-put, present-put}
 use Rattle.equality_pairs.proofs.pairs.put_pair.Statement.{statement}
@@ -56,11 +53,7 @@ same-length-3 c = search needs
 
 returns-2 : tie.Need-returns-2
 returns-2 c = let a = c .before .before .before .before .before .before .before .before .before .before .args in
-    let h = c .before .before .before .before .before .before .before .before .before .before .pre in
-    let l : a .n < length (a .lefts .now) = omega arith in
-    let r : a .n < length (a .rights .now) = omega arith in
-    let s : a .n < length (a .null-safes .now) = omega arith in
-    present-put (sheetOf (a .s .now) (a .q)) (a .e) (a .lefts .now) (a .rights .now) (a .null-safes .now) (a .n) _ (c .before .before .before .before .before .column-equality .ensures) _ _ _ _ (c .before .before .before .equality .given .1) (c .before .expression-of .ensures) (c .null-safe-in .ensures) l r s
+    present-put (sheetOf (a .s .now) (a .q)) (a .e) (a .lefts .now) (a .rights .now) (a .null-safes .now) (a .n) _ (c .before .before .before .before .before .column-equality .ensures) _ _ _ _ (c .before .before .before .equality .given .1) (c .before .expression-of .ensures) (c .null-safe-in .ensures)
 
 pub put-pair-spec : {M : Type 1} → statement M
 put-pair-spec =

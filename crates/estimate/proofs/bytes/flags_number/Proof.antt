@@ -11,10 +11,10 @@ one-if-requires-2 : tie.Need-one-if-requires-2
 one-if-requires-2 c κs = search needs
 
 mul-result : tie.Need-mul-result
-mul-result c = omega (arith, bit-small (c .before .before .args .e .lower .present), bit-small (c .before .before .args .e .upper .present))
+mul-result c = omega (arith, bit-small (c .before .before .args .e .«has_lower»), bit-small (c .before .before .args .e .«has_upper»))
 
 add-result : tie.Need-add-result
-add-result c = omega (arith, bit-small (c .before .before .args .e .lower .present), bit-small (c .before .before .args .e .upper .present))
+add-result c = omega (arith, bit-small (c .before .before .args .e .«has_lower»), bit-small (c .before .before .args .e .«has_upper»))
 
 returns : tie.Need-returns
 returns c = search needs

@@ -4,6 +4,7 @@ use mathlib.Core.List.{List}
 use native.Mathlib.Omega.{arith}
 use Rattle.le.specs.Fields.{onto, fieldBytes}
 use Rattle.le.proofs.OntoLaws.{onto-part}
+use Rattle.estimate.specs.Bytes.{optionBits}
 use Rattle.estimate.proofs.EstimateLaws.{fields-joined}
 use borrow.Author.Needs.{needs}
 use Rattle.estimate.proofs.bytes.put_estimate.Statement.{statement}
@@ -51,6 +52,9 @@ part-put-u64-start c = search needs
 part-put-u64-end : tie.Need-part-put-u64-end
 part-put-u64-end c = search needs
 
+lower-bound-requires : tie.Need-lower-bound-requires
+lower-bound-requires c κs = search needs
+
 option-bits-requires : tie.Need-option-bits-requires
 option-bits-requires c κs = search needs
 
@@ -66,6 +70,9 @@ part-put-u64-start-2 c = search needs
 part-put-u64-end-2 : tie.Need-part-put-u64-end-2
 part-put-u64-end-2 c = search needs
 
+upper-bound-requires : tie.Need-upper-bound-requires
+upper-bound-requires c κs = search needs
+
 option-bits-requires-2 : tie.Need-option-bits-requires-2
 option-bits-requires-2 c κs = search needs
 
@@ -79,8 +86,8 @@ returns : tie.Need-returns
 unfolding fieldBytes
 returns c =
     let p5 = c .before .before in
-    let p4 = p5 .before .before .before .before .before in
-    let p3 = p4 .before .before .before .before .before in
+    let p4 = p5 .before .before .before .before .before .before in
+    let p3 = p4 .before .before .before .before .before .before in
     let p2 = p3 .before .before .before .before in
     let p1 = p2 .before .before .before .before .before in
     let a = p1 .before .before .before .before .args in
@@ -89,7 +96,7 @@ returns c =
     let x4 = onto-part _ _ _ _ _ 10 _ refl refl (omega arith) x3 (p4 .put-u64 .ensures) in
     onto-part _ _ _ _ _ 18 _ refl refl (omega arith) x4 (p5 .put-u642 .ensures)
     ∙ ap (λ (bs : List ℕ). onto bs (a .out .now))
-    (fields-joined (a .e) _ _ _ _ (p1 .before .source-number .ensures) (p2 .before .flags-number .ensures) (p4 .before .option-bits .ensures) (p5 .before .option-bits2 .ensures))
+    (fields-joined (a .e) _ _ _ _ (p1 .before .source-number .ensures) (p2 .before .flags-number .ensures) (p4 .before .option-bits .ensures ∙ ap optionBits (p4 .before .before .lower-bound .ensures)) (p5 .before .option-bits2 .ensures ∙ ap optionBits (p5 .before .before .upper-bound .ensures)))
 
 pub put-estimate-spec : {M : Type 1} → statement M
 put-estimate-spec =
@@ -109,11 +116,13 @@ put-estimate-spec =
     sub-put-u64
     part-put-u64-start
     part-put-u64-end
+    lower-bound-requires
     option-bits-requires
     put-u64-requires
     sub-put-u64-2
     part-put-u64-start-2
     part-put-u64-end-2
+    upper-bound-requires
     option-bits-requires-2
     put-u64-requires-2
     same-length

@@ -11,8 +11,8 @@ add-u16-at c = search needs
 u16-at-requires : tie.Need-u16-at-requires
 u16-at-requires c κs = search needs
 
-cast-end : tie.Need-cast-end
-cast-end c = search needs
+cast-first : tie.Need-cast-first
+cast-first c = search needs
 
 add-u16-at-2 : tie.Need-add-u16-at-2
 add-u16-at-2 c = search needs
@@ -20,8 +20,8 @@ add-u16-at-2 c = search needs
 u16-at-requires-2 : tie.Need-u16-at-requires-2
 u16-at-requires-2 c κs = search needs
 
-cast-end-2 : tie.Need-cast-end-2
-cast-end-2 c = search needs
+cast-end : tie.Need-cast-end
+cast-end c = search needs
 
 add-end : tie.Need-add-end
 add-end c = search needs
@@ -31,6 +31,9 @@ is-nary-requires c κs = search needs
 
 both-requires : tie.Need-both-requires
 both-requires c κs = search needs
+
+both-requires-2 : tie.Need-both-requires-2
+both-requires-2 c κs = search needs
 
 returns : tie.Need-returns
 returns c = cc
@@ -42,11 +45,12 @@ run-holds-spec =
     expression-place-requires
     add-u16-at
     u16-at-requires
-    cast-end
+    cast-first
     add-u16-at-2
     u16-at-requires-2
-    cast-end-2
+    cast-end
     add-end
     is-nary-requires
     both-requires
+    both-requires-2
     returns)

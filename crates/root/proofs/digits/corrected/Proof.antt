@@ -1,15 +1,17 @@
--- `corrected` meets its contract: where `good` is true, the digits' square and the rest make up w * 4 ^ 27 (`more-is`), and the tests give the bounds. Assumes nothing.
-use Rattle.root.proofs.Quick.{bounded, more-is}
+-- `corrected` makes the definition's tests. Assumes nothing.
+use Rattle.root.proofs.Quick.{bounded, attempt-far, attempt-short, attempt-long, attempt-made}
+use Rattle.root.specs.Guess.{corrected}
 use Prim.Native.Nat.{_+_, _*_, _/_}
-use mathlib.Core.Bool.{true, false, false≢true}
-use mathlib.Core.Path.{_≡_}
+use mathlib.Core.Path.{refl}
+use borrow.Author.Tests.{le-ltb}
 use native.Mathlib.Omega.{arith}
 use borrow.Author.Needs.{needs}
 use Rattle.root.proofs.digits.corrected.Statement.{statement}
 use Rattle.root.proofs.digits.corrected.Tie as tie
 
 returns : tie.Need-returns
-returns c = λ (e : false ≡ true). absurd (false≢true e)
+unfolding corrected
+returns c = rw (le-ltb _ _ (c .if1 .taken)) refl
 
 remainder-of-requires : tie.Need-remainder-of-requires
 remainder-of-requires c κs = search needs
@@ -24,7 +26,7 @@ div-q : tie.Need-div-q
 div-q c = search needs
 
 returns-2 : tie.Need-returns-2
-returns-2 c = λ (e : false ≡ true). absurd (false≢true e)
+returns-2 c = attempt-far _ _ _ (c .before .before .remainder-of .ensures .0) (c .before .before .before .if1 .left) (c .if2 .taken)
 
 mul-s : tie.Need-mul-s
 mul-s c = search needs
@@ -43,19 +45,16 @@ add-root : tie.Need-add-root
 add-root c = search needs
 
 returns-3 : tie.Need-returns-3
-returns-3 c = λ (e : false ≡ true). absurd (false≢true e)
+returns-3 c = attempt-short _ _ _ (c .before .before .before .before .remainder-of .ensures .0) (c .before .before .before .before .before .if1 .left) (c .before .before .if2 .left) (c .if3 .taken)
 
 mul-if4 : tie.Need-mul-if4
 mul-if4 c = search needs
 
 returns-4 : tie.Need-returns-4
-returns-4 c = λ (e : false ≡ true). absurd (false≢true e)
+returns-4 c = attempt-long _ _ _ (c .before .before .before .before .before .before .remainder-of .ensures .0) (c .before .before .before .before .before .before .before .if1 .left) (c .before .before .before .before .if2 .left) (c .before .before .if3 .left) (c .if4 .taken)
 
 returns-5 : tie.Need-returns-5
-returns-5 c =
-    let l = c .before .before .before .before .before .before .remainder-of in
-    let g = c .before .before .before .before .before .before .before .before .args .g in
-    λ e. record { whole = more-is g (l .result .rest / (2 * g + 1)) (l .result .rest) _ (l .ensures .0 e) (c .before .before .if3 .left); small = c .if4 .left; bound = omega arith }
+returns-5 c = attempt-made _ _ _ (c .before .before .before .before .before .before .remainder-of .ensures .0) (c .before .before .before .before .before .before .before .if1 .left) (c .before .before .before .before .if2 .left) (c .before .before .if3 .left) (c .if4 .left)
 
 pub corrected-spec : {M : Type 1} → statement M
 corrected-spec =

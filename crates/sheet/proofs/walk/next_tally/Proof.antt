@@ -90,7 +90,7 @@ returns-8 : tie.Need-returns-8
 returns-8 c = let below = c .run-length .ensures .1 in (ap (λ (n : ℕ). c .before .before .before .before .args .tally + n) (c .run-length .ensures .0) ∙ expressions-next _ _ _ _ _ _ (c .before .before .before .before .pre .1 .1) (c .before .enum-told8 .given .1) _ (c .before .before .before .before .pre .0 .1), omega arith)
 
 returns-9 : tie.Need-returns-9
-returns-9 c = let few = field-below 2 (c .before .before .before .before .args .s .now) (c .before .before .before .before .args .expressions) (λ k. c .before .before .before .shared-slice-known .given k .fits) in let found = c .nary-from .ensures .1 in (c .nary-from .ensures .0 ∙ operands-next _ _ _ _ _ _ (c .before .before .before .before .pre .1 .1) (c .before .enum-told9 .given .1), omega arith)
+returns-9 c = let few = field-below 2 (c .before .before .before .before .args .s .now) (c .before .before .before .before .args .expressions) (λ k. c .before .before .before .shared-slice-known .given k .fits) in let found = c .nary-from .ensures .1 in (c .nary-from .ensures .0 ∙ operands-next _ _ _ _ _ _ (c .before .before .before .before .pre .1 .1) (c .before .before .before .before .pre .0 .0 .1) (c .before .enum-told9 .given .1), omega arith)
 
 returns-10 : tie.Need-returns-10
 unfolding tallyBefore

@@ -109,7 +109,7 @@ returns-8 c = rw (c .expression-refusal .ensures, expressions-tally _ _ _ _ _ _ 
 
 returns-9 : tie.Need-returns-9
 unfolding recordRefusal
-returns-9 c = rw (c .operand-refusal .ensures, c .before .nary-from .ensures .0, operands-owner _ _ _ _ _ _ (c .before .before .before .before .before .pre .1 .1) (c .before .before .enum-told9 .given .1), c .before .before .enum-told9 .given .1) refl
+returns-9 c = rw (c .operand-refusal .ensures, c .before .nary-from .ensures .0, operands-owner _ _ _ _ _ _ (c .before .before .before .before .before .pre .1 .1) (c .before .before .before .before .before .pre .0 .1) (c .before .before .enum-told9 .given .1), c .before .before .enum-told9 .given .1) refl
 
 returns-10 : tie.Need-returns-10
 unfolding recordRefusal

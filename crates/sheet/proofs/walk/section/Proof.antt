@@ -20,7 +20,7 @@ cast-walk-records : tie.Need-cast-walk-records
 cast-walk-records c = search needs
 
 walk-records-requires : tie.Need-walk-records-requires
-walk-records-requires c κs = let room = count-room _ _ _ _ (sym (c .before .before .count-refusal .ensures) ∙ c .before .if1 .left) in let few = c .u16-at .ok in ((omega arith, room), (omega arith, omega arith))
+walk-records-requires c κs = let room = count-room _ _ _ _ (sym (c .before .before .count-refusal .ensures) ∙ c .before .if1 .left) in let few = c .u16-at .ok in (((omega arith, room), c .before .before .before .before .pre .0 .1), (omega arith, omega arith))
 
 returns-2 : tie.Need-returns-2
 returns-2 c = c .walk-records .ensures ∙ rw (c .before .u16-at .ensures, section-kept _ _ _ _ _ (sym (c .before .before .before .count-refusal .ensures) ∙ c .before .before .if1 .left)) refl

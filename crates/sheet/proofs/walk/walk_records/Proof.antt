@@ -32,7 +32,7 @@ unfolding recordAt
 loop-holds c = (simp sub-zero, (refl, tally-first _ _ _ _), (omega arith, (omega arith, omega arith)))
 
 record-refusal-requires : tie.Need-record-refusal-requires Inv-loop μ-loop
-record-refusal-requires c κs = let l = c .loop-test .taken in (((omega arith, omega arith), (omega arith, omega arith)), (omega arith, c .before .loop .inv .1 .1))
+record-refusal-requires c κs = let l = c .loop-test .taken in ((((omega arith, omega arith), (omega arith, omega arith)), c .before .before .before .pre .0 .1), (omega arith, c .before .loop .inv .1 .1))
 
 returns : tie.Need-returns Inv-loop μ-loop
 returns c =
@@ -42,7 +42,7 @@ returns c =
     reached-refused _ _ _ (told ∙ rest-broken _ _ _ _ (l .inv .0) (c .before .before .loop-test .taken) (λ e. c .if1 .taken (told ∙ e))) (c .if1 .taken)
 
 next-tally-requires : tie.Need-next-tally-requires Inv-loop μ-loop
-next-tally-requires c κs = (((omega arith, omega arith), c .before .before .before .loop .inv .1 .0), (omega arith, c .before .before .before .loop .inv .1 .1))
+next-tally-requires c κs = ((((omega arith, omega arith), c .before .before .before .before .before .pre .0 .1), c .before .before .before .loop .inv .1 .0), (omega arith, c .before .before .before .loop .inv .1 .1))
 
 record-end-requires : tie.Need-record-end-requires Inv-loop μ-loop
 record-end-requires c κs = omega arith

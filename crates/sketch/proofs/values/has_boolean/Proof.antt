@@ -1,5 +1,4 @@
 use mathlib.Core.Path.{refl, sym, _∙_}
-use Rattle.scalar.specs.Types.{scalarType}
 use Rattle.scalar.specs.declared.Scalar.the-variants.{Boolean}
 use Rattle.sketch.proofs.ValueLaws.{other-tag, boolean-there}
 use borrow.Author.Needs.{needs}
@@ -10,7 +9,6 @@ byte-there-requires : tie.Need-byte-there-requires
 byte-there-requires c κs = search needs
 
 returns : tie.Need-returns
-unfolding scalarType
 returns c = other-tag _ _ 0 (Boolean _) refl (λ e. c .if1 .taken (c .before .byte-there .ensures ∙ e))
 
 add-byte-there : tie.Need-add-byte-there

@@ -1,5 +1,4 @@
 use mathlib.Core.Path.{refl, sym, _∙_}
-use Rattle.scalar.specs.Types.{scalarType}
 use Rattle.scalar.specs.declared.Scalar.the-variants.{Float64}
 use Rattle.sketch.proofs.ValueLaws.{other-tag, float64-there}
 use borrow.Author.Needs.{needs}
@@ -10,7 +9,6 @@ byte-there-requires : tie.Need-byte-there-requires
 byte-there-requires c κs = search needs
 
 returns : tie.Need-returns
-unfolding scalarType
 returns c = other-tag _ _ 3 (Float64 _) refl (λ e. c .if1 .taken (c .before .byte-there .ensures ∙ e))
 
 add-f64-there : tie.Need-add-f64-there

@@ -1,7 +1,6 @@
 use mathlib.Core.Path.{refl, sym, _∙_}
 use mir.Syntax.{w64}
 use Rattle.signed.proofs.SignedLaws.{kept}
-use Rattle.scalar.specs.Types.{scalarType}
 use Rattle.scalar.specs.declared.Scalar.the-variants.{Int64}
 use Rattle.sketch.proofs.ValueLaws.{other-tag, int64-there}
 use borrow.Author.Needs.{needs}
@@ -12,7 +11,6 @@ byte-there-requires : tie.Need-byte-there-requires
 byte-there-requires c κs = search needs
 
 returns : tie.Need-returns
-unfolding scalarType
 returns c = other-tag _ _ 2 (Int64 _) refl (λ e. c .if1 .taken (c .before .byte-there .ensures ∙ e))
 
 add-i64-there : tie.Need-add-i64-there
