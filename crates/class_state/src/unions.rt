@@ -30,7 +30,8 @@ pub fn move_roots(roots: &mut [u8], from: u8, to: u8)
     move_each(roots, from, to);
 }
 
-// The distinct at the root that stays, unless both columns are in one class already.
+// The distinct at the root that stays: the least of the three, or the left one as it is where both columns
+// are in one class already.
 pub fn united(same: bool, left: Estimate, right: Estimate, distinct: Estimate) -> Estimate
     ensures { λ r. ⌜ r ≡ united same left right distinct ⌝ }
 {
