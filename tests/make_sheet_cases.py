@@ -8,17 +8,17 @@ little-endian. They work on a buffer of 65,536 bytes for sheets and another for 
 
   1  store     the first n bytes of the payload go into the sheets' buffer at byte `at`
   2  refused   the first `at` bytes of the buffer are a sheet that is refused with `number`
-  3  accepted  the first `at` bytes are a sheet that is accepted; the payload holds the offsets of its twelve
-               sections, u16 each
+  3  accepted  the first `at` bytes are a sheet that is accepted; the payload holds a place in the answers' buffer and
+               a size, u32 each: so many bytes from there on are the offsets of its sections, u16 each
   4  prefixes  each proper prefix of the first `at` bytes, the empty one too, is refused with `number`
 
   5  store     as 1, into the answers' buffer
-  6  join      the first `at` bytes are a sheet that is accepted; the payload holds the place of the join's answer in
-               the answers' buffer and its length, u32 each
+  6  join      the first `at` bytes are a sheet that is accepted; the payload holds place and size, as for 3, of the
+               join's answer
   7  predicate the same for the predicate of expression n
   8  split     the same for the split of expression n
 
-This script writes the kinds 1 to 4, and rust/oracle/src/bin/list.rs those of 1 to 3 and 5 to 8.
+This script writes the kinds 1 to 5, and rust/oracle/src/bin/list.rs those of 1 to 3 and 5 to 8.
 
 Where the expected numbers come from: each case states which number it gets and at which field, by itself or by a
 table of broken fields. `check_sheet` below is a reading of document 01, with what docs/DECISIONS.md settles, written
@@ -30,7 +30,7 @@ import random
 import struct
 import sys
 
-STORE, REFUSED, ACCEPTED, PREFIXES = 1, 2, 3, 4
+STORE, REFUSED, ACCEPTED, PREFIXES, STORE_ANSWER = 1, 2, 3, 4, 5
 BUFFER = 65_536
 PAYLOAD = 24
 
@@ -696,25 +696,25 @@ class Cases:
 
     def __init__(self):
         self.under, self.seen = {}, set()
-        self.commands, self.buffer = [], bytearray(BUFFER)
+        self.commands, self.buffers = [], {STORE: bytearray(BUFFER), STORE_ANSWER: bytearray(BUFFER)}
 
     # -- what is claimed
 
-    def add(self, base, data, kind, number=0, payload=b""):
-        self.under.setdefault(base.data, []).append((data, kind, number, payload))
+    def add(self, base, data, kind, number=0, answer=b""):
+        self.under.setdefault(base.data, []).append((data, kind, number, answer))
 
     def accept(self, sheet):
         """Once for each sheet."""
         if sheet.data not in self.seen:
             self.seen.add(sheet.data)
             hold(verdict(sheet.data) == sheet.offsets(), "accepted", verdict(sheet.data))
-            self.add(sheet, sheet.data, ACCEPTED, 0, struct.pack("<12H", *sheet.offsets()))
+            self.add(sheet, sheet.data, ACCEPTED, answer=b"".join(uint(at, 2) for at in sheet.offsets()))
 
     def refuse(self, base, number, place, data, *what, neighbour=None):
         """Bytes that are refused at a place, in front of which they are those of an accepted sheet: the base, or another."""
         self.accept(base)
         neighbour = neighbour or base.data
-        hold(len(verdict(neighbour)) == 12 and data[:place] == neighbour[:place] and data != neighbour, *what, "not right up to there")
+        hold(len(verdict(neighbour)) == len(SECTIONS) and data[:place] == neighbour[:place] and data != neighbour, *what, "not right up to there")
         self.refuse_alone(base, number, place, data, *what)
 
     def refuse_alone(self, base, number, place, data, *what):
@@ -757,29 +757,30 @@ class Cases:
     def command(self, kind, number, n, at, payload=b""):
         self.commands.append(struct.pack("<BBHI", kind, number, n, at) + payload.ljust(PAYLOAD, b"\0"))
 
-    def store(self, data):
-        """Stores where the buffer differs from the data, no more than a payload at once."""
-        at = 0
+    def store(self, kind, data):
+        """Stores where the kind's buffer differs from the data, no more than a payload at once."""
+        buffer, at = self.buffers[kind], 0
         while at < len(data):
             end = min(at + 64, len(data))
-            if self.buffer[at:end] == data[at:end]:
+            if buffer[at:end] == data[at:end]:
                 at = end
                 continue
-            at = next(i for i in range(at, end) if self.buffer[i] != data[i])
+            at = next(i for i in range(at, end) if buffer[i] != data[i])
             part = data[at:at + PAYLOAD]
-            while self.buffer[at + len(part) - 1] == part[-1]:
+            while buffer[at + len(part) - 1] == part[-1]:
                 part = part[:-1]
-            self.command(STORE, 0, len(part), at, part)
-            self.buffer[at:at + len(part)] = part
+            self.command(kind, 0, len(part), at, part)
+            buffer[at:at + len(part)] = part
             at += len(part)
+        hold(buffer[:len(data)] == data, "the buffer", kind, len(data))
 
     def written(self):
         """All commands, the short sheets first."""
         for base in sorted(self.under, key=lambda data: len(data) > 10_000):
-            for data, kind, number, payload in self.under[base]:
-                self.store(data)
-                hold(self.buffer[:len(data)] == data, "the buffer", kind, number, len(data))
-                self.command(kind, number, 0, len(data), payload)
+            for data, kind, number, answer in self.under[base]:
+                self.store(STORE, data)
+                self.store(STORE_ANSWER, answer)
+                self.command(kind, number, 0, len(data), struct.pack("<II", 0, len(answer)))
         return b"".join(self.commands)
 
 

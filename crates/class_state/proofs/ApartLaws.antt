@@ -20,11 +20,11 @@ use Rattle.sheet.specs.Sheet.{Sheet, recordIn, recordsIn, sheetOf}
 use Rattle.sheet.specs.declared.Sections.{Sections}
 use Rattle.sheet.specs.declared.order.Kind.the-variants.{Columns}
 use Rattle.sheet.proofs.PlaceLaws.{columns-fixed, fixed-place}
-use Rattle.lookup.specs.Lookup.{profileIn, orElseProfile, leftProfile, rightProfile, profileAndRows}
-use Rattle.lookup.specs.declared.profiles.ProfileAndRows.{ProfileAndRows}
-use Rattle.lookup.specs.declared.profiles.ProfileAndRows.the-variants.{Absent, Present}
+use Rattle.scan.specs.Scan.{firstWith}
+use Rattle.lookup.specs.Lookup.{ProfileAndRows, Absent, Present, profileIn, orElseProfile, leftProfile, rightProfile, profileAndRows}
 use Rattle.class_state.specs.declared.EquivalenceClassState.{EquivalenceClassState}
-use Rattle.class_state.specs.State.{columnLimit, unknownDistinct, ownDistinct, columnDistinct, apart}
+use Rattle.layout.specs.Places.{columnLimit}
+use Rattle.class_state.specs.State.{unknownDistinct, ownDistinct, columnDistinct, apart}
 
 -- ---- each column its own root, where a loop stands at the i-th
 
@@ -58,14 +58,14 @@ own-all out i n h o = ext-getD 0 out (tabulate itself 128) (n ∙ sym (tabulate-
 -- ---- distincts stored from the last profile to the first
 
 -- profile i of a section of columns, whose count stands at `start`
-abbrev pub profilePlace : ℕ → ℕ → ℕ
-profilePlace start i = start + 2 + 98 * i
+abbrev pub recordPlace : ℕ → ℕ → ℕ
+recordPlace start i = start + 2 + 98 * i
 
 -- of n profiles from the i-th on, the first of a column over later ones
 unfoldable pub storedFrom : List ℕ → ℕ → ℕ → ℕ → List Estimate → List Estimate
 unfolding estimateAt
 storedFrom s start i zero l = l
-storedFrom s start i (suc n) l = set (storedFrom s start (i + 1) n l) (u16At s (profilePlace start i)) (estimateAt s (profilePlace start i + 70))
+storedFrom s start i (suc n) l = set (storedFrom s start (i + 1) n l) (u16At s (recordPlace start i)) (estimateAt s (recordPlace start i + 70))
 
 -- of all of them
 abbrev pub stored : List ℕ → ℕ → List Estimate → List Estimate
@@ -82,14 +82,14 @@ module _ (s : List ℕ) (start : ℕ) (l₀ : List Estimate) where
   pub stored-length : (i n : ℕ) → length (storedFrom s start i n l₀) ≡ length l₀
   unfolding storedFrom
   stored-length i zero = refl
-  stored-length i (suc n) = length-set (storedFrom s start (i + 1) n l₀) (u16At s (profilePlace start i)) (estimateAt s (profilePlace start i + 70)) ∙ stored-length (i + 1) n
+  stored-length i (suc n) = length-set (storedFrom s start (i + 1) n l₀) (u16At s (recordPlace start i)) (estimateAt s (recordPlace start i + 70)) ∙ stored-length (i + 1) n
 
-  pub stored-next : (l l′ : List Estimate) (i n column : ℕ) → 1 ≤ i → i ≤ n → column ≡ u16At s (profilePlace start (i - 1)) → l′ ≡ set l column (estimateAt s (profilePlace start (i - 1) + 70))
+  pub stored-next : (l l′ : List Estimate) (i n column : ℕ) → 1 ≤ i → i ≤ n → column ≡ u16At s (recordPlace start (i - 1)) → l′ ≡ set l column (estimateAt s (recordPlace start (i - 1) + 70))
       → l ≡ storedFrom s start i (n - i) l₀ → l′ ≡ storedFrom s start (i - 1) (n - (i - 1)) l₀
   unfolding storedFrom
   stored-next l l′ i n column h k c p e =
       p
-      ∙ (λ j. set ((e ∙ ap (λ (m : ℕ). storedFrom s start m (n - i) l₀) (back i h)) j) (c j) (estimateAt s (profilePlace start (i - 1) + 70)))
+      ∙ (λ j. set ((e ∙ ap (λ (m : ℕ). storedFrom s start m (n - i) l₀) (back i h)) j) (c j) (estimateAt s (recordPlace start (i - 1) + 70)))
       ∙ ap (λ (m : ℕ). storedFrom s start (i - 1) m l₀) (more i n h k)
     where
       back : (i : ℕ) → 1 ≤ i → i ≡ i - 1 + 1
@@ -99,8 +99,8 @@ module _ (s : List ℕ) (start : ℕ) (l₀ : List Estimate) where
       more i n h k = omega arith
 
   -- a column that the state does not have changes nothing
-  pub stored-past : (l : List Estimate) (i n column : ℕ) → 1 ≤ i → i ≤ n → column ≡ u16At s (profilePlace start (i - 1)) → length l ≤ column → l ≡ storedFrom s start i (n - i) l₀ → l ≡ storedFrom s start (i - 1) (n - (i - 1)) l₀
-  stored-past l i n column h k c past e = stored-next l l i n column h k c (sym (set-out l column (estimateAt s (profilePlace start (i - 1) + 70)) past)) e
+  pub stored-past : (l : List Estimate) (i n column : ℕ) → 1 ≤ i → i ≤ n → column ≡ u16At s (recordPlace start (i - 1)) → length l ≤ column → l ≡ storedFrom s start i (n - i) l₀ → l ≡ storedFrom s start (i - 1) (n - (i - 1)) l₀
+  stored-past l i n column h k c past e = stored-next l l i n column h k c (sym (set-out l column (estimateAt s (recordPlace start (i - 1) + 70)) past)) e
 
   pub stored-all : (l : List Estimate) (i n : ℕ) → i ≤ 0 → n ≡ u16At s start → l ≡ storedFrom s start i (n - i) l₀ → l ≡ stored s start l₀
   stored-all l i n h c e = e ∙ (λ j. storedFrom s start (zeroth i h j) (rest i n (u16At s start) h c j) l₀)
@@ -124,26 +124,26 @@ own-either sheet Absent (Present profile rows) = refl
 own-either sheet (Present profile rows) right = refl
 
 abbrev profileAt : List ℕ → ℕ → ℕ → ColumnProfile
-profileAt s start i = columnProfileAt s (profilePlace start i)
+profileAt s start i = columnProfileAt s (recordPlace start i)
 
 module _ (s : List ℕ) (start : ℕ) (l : List Estimate) (d : Estimate) (rows : Float) (column : ℕ) (h : column < length l) where
   stored-from : (i n : ℕ) → getD (storedFrom s start i n l) column d ≡ ownOr (getD l column d) (profileIn rows column (tabulateFrom (profileAt s start) i n))
-  unfolding storedFrom profileIn tabulateFrom columnProfileAt
+  unfolding storedFrom firstWith tabulateFrom columnProfileAt
   stored-from i zero = refl
-  stored-from i (suc n) = go (eqb (u16At s (profilePlace start i)) column) (eqb-true _ _) (eqb-false _ _) (stored-from (i + 1) n)
+  stored-from i (suc n) = go (eqb (u16At s (recordPlace start i)) column) (eqb-true _ _) (eqb-false _ _) (stored-from (i + 1) n)
     where
-      go : (t : Bool) → (t ≡ true → u16At s (profilePlace start i) ≡ column) → (t ≡ false → u16At s (profilePlace start i) ≡ column → ⊥)
+      go : (t : Bool) → (t ≡ true → u16At s (recordPlace start i) ≡ column) → (t ≡ false → u16At s (recordPlace start i) ≡ column → ⊥)
           → getD (storedFrom s start (i + 1) n l) column d ≡ ownOr (getD l column d) (profileIn rows column (tabulateFrom (profileAt s start) (i + 1) n))
-          → getD (set (storedFrom s start (i + 1) n l) (u16At s (profilePlace start i)) (estimateAt s (profilePlace start i + 70))) column d
+          → getD (set (storedFrom s start (i + 1) n l) (u16At s (recordPlace start i)) (estimateAt s (recordPlace start i + 70))) column d
           ≡ ownOr (getD l column d) (cond t (Present (profileAt s start i) rows) (profileIn rows column (tabulateFrom (profileAt s start) (i + 1) n)))
       go true e f r =
           let k : column < length (storedFrom s start (i + 1) n l) = subst (λ (m : ℕ). column < m) (sym (stored-length s start l (i + 1) n)) h in
           subst
-          (λ (j : ℕ). getD (set (storedFrom s start (i + 1) n l) j (estimateAt s (profilePlace start i + 70))) column d ≡ estimateAt s (profilePlace start i + 70))
+          (λ (j : ℕ). getD (set (storedFrom s start (i + 1) n l) j (estimateAt s (recordPlace start i + 70))) column d ≡ estimateAt s (recordPlace start i + 70))
           (sym (e refl))
-          (getD-set-same (storedFrom s start (i + 1) n l) column (estimateAt s (profilePlace start i + 70)) d k)
+          (getD-set-same (storedFrom s start (i + 1) n l) column (estimateAt s (recordPlace start i + 70)) d k)
       go false e f r =
-          getD-set-other (storedFrom s start (i + 1) n l) (u16At s (profilePlace start i)) column (estimateAt s (profilePlace start i + 70)) d (λ (z : column ≡ u16At s (profilePlace start i)). f refl (sym z)) ∙ r
+          getD-set-other (storedFrom s start (i + 1) n l) (u16At s (recordPlace start i)) column (estimateAt s (recordPlace start i + 70)) d (λ (z : column ≡ u16At s (recordPlace start i)). f refl (sym z)) ∙ r
 
   -- of a whole section
   stored-at : getD (stored s start l) column d ≡ ownOr (getD l column d) (profileIn rows column (recordsIn Columns columnProfileAt s start))

@@ -15,9 +15,10 @@ use Rattle.records.specs.Lists.{tabulateFrom, tabulate}
 use Rattle.records.proofs.ListLaws.{tabulate-length, tabulate-at}
 use Rattle.selection.specs.Selected.{selected}
 use Rattle.selection.proofs.SelectedLaws.{oneSelected}
-use Rattle.class_state.specs.State.{columnLimit, hasRoot, members, isReturned, returnedRoots}
-use Rattle.class_state.specs.Sizes.{memberCount, classSize, returnedSize, sumOver, returnedCount, countsSize, classesSize}
-use Rattle.class_state.proofs.SizeLaws.{members-below, count-step, count-end}
+use Rattle.layout.specs.Places.{columnLimit}
+use Rattle.class_state.specs.State.{hasRoot, members, isReturned, returnedRoots}
+use Rattle.class_state.specs.Sizes.{memberCount, classSize, returnedSize, sumOver, returnedCount, countsSize}
+use Rattle.class_state.proofs.SizeLaws.{classesSize, members-below, count-step, count-end}
 
 -- ---- a sum, where a loop stands at the i-th of a list
 

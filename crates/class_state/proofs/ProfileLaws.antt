@@ -15,7 +15,8 @@ use Rattle.sheet.specs.Sheet.{Sheet, recordsIn, sheetOf}
 use Rattle.sheet.specs.declared.Sections.{Sections}
 use Rattle.sheet.specs.declared.order.Kind.the-variants.{Classes}
 use Rattle.class_state.specs.declared.EquivalenceClassState.{EquivalenceClassState}
-use Rattle.class_state.specs.State.{columnLimit, Rooted, find, union, columnDistinct, apart, unionEach, overwritten, withColumns, withClasses, fromProfiles}
+use Rattle.layout.specs.Places.{columnLimit}
+use Rattle.class_state.specs.State.{Rooted, find, union, columnDistinct, apart, unionEach, overwritten, withColumns, withClasses, fromProfiles}
 use Rattle.class_state.proofs.UnionLaws.{union-rooted, union-lengths}
 
 -- ---- its parts

@@ -21,8 +21,8 @@ use Rattle.selection.proofs.SelectedLaws.{selected-step, selected-end}
 use Rattle.class_state.specs.declared.EquivalenceClassState.{EquivalenceClassState}
 use Rattle.class_state.specs.State.{rootDistinct, members, isReturned, returnedRoots, classAtRoot, intoClasses}
 use Rattle.class_state.specs.Bytes.{classBytes, classesBytes}
-use Rattle.class_state.specs.Sizes.{memberCount, returnedSize, sizeAtRoot, classesSize}
-use Rattle.class_state.proofs.SizeLaws.{class-length, classes-size}
+use Rattle.class_state.specs.Sizes.{memberCount, returnedSize, sizeAtRoot}
+use Rattle.class_state.proofs.SizeLaws.{class-parts, class-length, classesSize, classes-size}
 
 pub head-length : (count : ℕ) (d : Estimate) → length (u16Bytes count ++ estimateBytes d) ≡ 28
 unfolding fieldBytes
@@ -56,9 +56,10 @@ module _ (roots : List ℕ) (root count : ℕ) (e : count ≡ memberCount roots 
 
   -- count and estimate, then the members
   pub class-written : (distinct : Estimate) → (u16Bytes count ++ estimateBytes distinct) ++ numbersBytes (members roots root) ≡ classBytes (record { columns = members roots root; distinct = distinct })
-  unfolding classBytes
   class-written distinct =
-      append-assoc (u16Bytes count) (estimateBytes distinct) (numbersBytes (members roots root)) ∙ ap (λ (n : ℕ). u16Bytes n ++ (estimateBytes distinct ++ numbersBytes (members roots root))) e
+      append-assoc (u16Bytes count) (estimateBytes distinct) (numbersBytes (members roots root))
+      ∙ ap (λ (n : ℕ). u16Bytes n ++ (estimateBytes distinct ++ numbersBytes (members roots root))) e
+      ∙ sym (class-parts (record { columns = members roots root; distinct = distinct }))
 
 -- ---- the classes of a state
 

@@ -2,7 +2,7 @@
 use Prim.Native.Nat.{ℕ, zero, suc, _+_, _-_, _*_, _≤_, _<_}
 use mathlib.Core.Path.{_≡_, refl, ap, _∙_}
 use mathlib.Core.Bool.{Bool, true, false, cond}
-use mathlib.Core.List.{List, [], _∷_, _++_, map, List·Memᴰ, List·Memᴰ·head, List·Memᴰ·tail}
+use mathlib.Core.List.{List, [], _∷_, _++_, map, List·Memᴰ, append-assoc, List·Memᴰ·head, List·Memᴰ·tail}
 use native.Mathlib.Omega.{arith}
 use native.Mathlib.Nat.{mul-add}
 use borrow.Author.Tests.{eqb-true, ne-eqb, leb-true}
@@ -20,7 +20,7 @@ use Rattle.selection.proofs.SelectedLaws.{Rising, none, next, oneSelected, sele
 use Rattle.class_state.specs.declared.EquivalenceClassState.{EquivalenceClassState}
 use Rattle.class_state.specs.State.{hasRoot, members, isReturned, returnedRoots, classAtRoot, intoClasses}
 use Rattle.class_state.specs.Bytes.{classBytes, classesBytes}
-use Rattle.class_state.specs.Sizes.{memberCount, classSize, sizeAtRoot, sumOver, classesSize}
+use Rattle.class_state.specs.Sizes.{memberCount, classSize, sizeAtRoot, sumOver}
 
 -- ---- how many, at most
 
@@ -34,16 +34,30 @@ class-count-below roots = selected-length (isReturned roots) 0 128
 
 -- ---- the bytes
 
+-- how many columns, their distinct, the columns
+pub class-parts : (class : ColumnEquivalenceClass) → classBytes class ≡ u16Bytes (length (class .columns)) ++ (estimateBytes (class .distinct) ++ numbersBytes (class .columns))
+unfolding classBytes estimateBytes
+class-parts class =
+    let count = u16Bytes (length (class .columns)) in
+    let distinct = estimateBytes (class .distinct) in
+    let columns = numbersBytes (class .columns) in
+    append-assoc count (distinct ++ []) columns ∙ ap (λ (l : List ℕ). count ++ l) (append-assoc distinct [] columns)
+
 pub class-length : (class : ColumnEquivalenceClass) → length (classBytes class) ≡ classSize (length (class .columns))
-unfolding classBytes
 class-length class =
     let c = class .columns in
+    let p = ap length (class-parts class) in
     let a = length-append (u16Bytes (length c)) (estimateBytes (class .distinct) ++ numbersBytes c) in
     let b = length-append (estimateBytes (class .distinct)) (numbersBytes c) in
     let u : length (u16Bytes (length c)) ≡ 2 = unfold fieldBytes in refl in
     let e = estimate-length (class .distinct) in
     let n = numbers-length c in
     omega arith
+
+-- of all classes that are returned
+unfoldable pub classesSize : List ℕ → ℕ
+unfolding members returnedRoots sumOver
+classesSize roots = sumOver (sizeAtRoot roots) (returnedRoots roots)
 
 module _ (state : EquivalenceClassState) where
   abbrev rootsBytes : List ℕ → List ℕ

@@ -2,15 +2,21 @@
 use Prim.Native.Nat.{ℕ}
 use mathlib.Core.List.{List, [], _∷_, _++_}
 use lib.ListN.{length}
-use Rattle.le.specs.Fields.{fieldBytes, u16Bytes}
-use Rattle.estimate.specs.Bytes.{estimateBytes}
+use Rattle.le.specs.Fields.{fieldBytes}
+use Rattle.layout.specs.Fields.{bytesOf}
 use Rattle.number_bytes.specs.Numbers.{numbersBytes}
 use Rattle.records.specs.Classes.{ColumnEquivalenceClass}
+use Rattle.records.specs.declared.classes.ClassHead.{ClassHead}
+use Rattle.record_rules.specs.Classes.{classHeadFields}
 
--- how many columns, the distinct, the columns
+-- how many columns, and their distinct
+abbrev pub classHead : ColumnEquivalenceClass → ClassHead
+classHead class = record { count = length (class .columns); distinct = class .distinct }
+
+-- the head, then the columns
 unfoldable pub classBytes : ColumnEquivalenceClass → List ℕ
-unfolding fieldBytes estimateBytes numbersBytes
-classBytes class = u16Bytes (length (class .columns)) ++ (estimateBytes (class .distinct) ++ numbersBytes (class .columns))
+unfolding fieldBytes numbersBytes
+classBytes class = bytesOf classHeadFields (classHead class) ++ numbersBytes (class .columns)
 
 -- one after the other
 unfoldable pub classesBytes : List ColumnEquivalenceClass → List ℕ

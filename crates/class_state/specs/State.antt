@@ -5,20 +5,15 @@ use mathlib.Core.List.{List, [], _∷_, map}
 use lib.Dec.{eqb, leb}
 use lib.ListN.{length, getD, set}
 use Rattle.float.specs.Order.{f64Zero}
+use Rattle.layout.specs.Places.{columnLimit, classLeast}
 use Rattle.estimate.specs.Estimates.{default, minByValue}
 use Rattle.estimate.specs.declared.Estimate.{Estimate}
 use Rattle.records.specs.Lists.{tabulateFrom, tabulate, itself}
 use Rattle.records.specs.Classes.{ColumnEquivalenceClass}
 use Rattle.sheet.specs.Sheet.{Sheet}
-use Rattle.lookup.specs.Lookup.{profileAndRows}
-use Rattle.lookup.specs.declared.profiles.ProfileAndRows.{ProfileAndRows}
-use Rattle.lookup.specs.declared.profiles.ProfileAndRows.the-variants.{Absent, Present}
+use Rattle.lookup.specs.Lookup.{ProfileAndRows, Absent, Present, profileAndRows}
 use Rattle.selection.specs.Selected.{selected}
 use Rattle.class_state.specs.declared.EquivalenceClassState.{EquivalenceClassState}
-
--- columns are below it
-abbrev pub columnLimit : ℕ
-columnLimit = 128
 
 -- every column's root is a column
 abbrev pub Rooted : List ℕ → Type 0
@@ -32,7 +27,7 @@ find state column = getD (state .roots) column 0
 abbrev pub equivalent : EquivalenceClassState → ℕ → ℕ → Bool
 equivalent state left right = eqb (find state left) (find state right)
 
--- past the end, which no root reaches: 128 distincts are there
+-- past the end, which no root reaches
 unfoldable pub noDistinct : Estimate
 unfolding default
 noDistinct = default f64Zero
@@ -124,7 +119,7 @@ unfolding selected
 members roots root = selected (hasRoot roots root) 0 columnLimit
 
 abbrev pub isReturned : List ℕ → ℕ → Bool
-isReturned roots root = leb 2 (length (members roots root))
+isReturned roots root = leb classLeast (length (members roots root))
 
 unfoldable pub returnedRoots : List ℕ → List ℕ
 unfolding selected members

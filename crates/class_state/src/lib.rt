@@ -1,5 +1,6 @@
 // EquivalenceClassState of the source's analysis.rs.
 use estimate::Estimate;
+use layout::COLUMN_LIMIT;
 
 mod apart;
 pub mod members;
@@ -10,6 +11,6 @@ pub mod unions;
 
 // Of each column the column at its root, and of each root its class's distinct.
 pub struct EquivalenceClassState {
-    pub roots: [u8; 128],
-    pub distincts: [Estimate; 128],
+    pub roots: [u8; COLUMN_LIMIT],
+    pub distincts: [Estimate; COLUMN_LIMIT],
 }

@@ -10,6 +10,10 @@ use crate::slots::root_of;
 use crate::unions::move_roots;
 use crate::unions::united;
 use estimate::bytes::estimate_at;
+use layout::CLASS_DISTINCT_OFFSET;
+use layout::CLASS_HEAD_SIZE;
+use layout::COUNT_SIZE;
+use layout::NUMBER_SIZE;
 use le::reads::u16_at;
 use sheet::Sections;
 
@@ -23,8 +27,8 @@ fn with_columns(s: &[u8], state: EquivalenceClassState, at: usize) -> Equivalenc
     if n < 2 {
         return state;
     }
-    let distinct = estimate_at(s, at + 2);
-    let first = u16_at(s, at + 28);
+    let distinct = estimate_at(s, at + CLASS_DISTINCT_OFFSET);
+    let first = u16_at(s, at + CLASS_HEAD_SIZE);
     let mut roots = state.roots;
     let mut distincts = state.distincts;
     let own = root_of(&roots, first);
@@ -32,7 +36,7 @@ fn with_columns(s: &[u8], state: EquivalenceClassState, at: usize) -> Equivalenc
     let mut i: usize = 1;
     while i < n {
         let to = root_of(&roots, first);
-        let from = root_of(&roots, u16_at(s, at + 28 + 2 * i));
+        let from = root_of(&roots, u16_at(s, at + CLASS_HEAD_SIZE + NUMBER_SIZE * i));
         let left = distincts[to as usize];
         let right = distincts[from as usize];
         distincts[to as usize] = united(to == from, left, right, distinct);
@@ -47,19 +51,19 @@ pub fn from_profiles(s: &[u8], q: Sections) -> EquivalenceClassState
 {
     let mut state = apart(s, q);
     let left = u16_at(s, q.left_classes as usize) as usize;
-    let mut at = q.left_classes as usize + 2;
+    let mut at = q.left_classes as usize + COUNT_SIZE;
     let mut i: usize = 0;
     while i < left {
         state = with_columns(s, state, at);
-        at = at + 28 + 2 * (u16_at(s, at) as usize);
+        at = at + CLASS_HEAD_SIZE + NUMBER_SIZE * (u16_at(s, at) as usize);
         i += 1;
     }
     let right = u16_at(s, q.right_classes as usize) as usize;
-    at = q.right_classes as usize + 2;
+    at = q.right_classes as usize + COUNT_SIZE;
     i = 0;
     while i < right {
         state = with_columns(s, state, at);
-        at = at + 28 + 2 * (u16_at(s, at) as usize);
+        at = at + CLASS_HEAD_SIZE + NUMBER_SIZE * (u16_at(s, at) as usize);
         i += 1;
     }
     state

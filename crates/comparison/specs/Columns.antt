@@ -7,9 +7,7 @@ use Rattle.float.specs.Order.{f64Zero, f64One, f64Max, clampUnit}
 use Rattle.estimate.specs.declared.Estimate.{Estimate}
 use Rattle.records.specs.declared.columns.ColumnProfile.{ColumnProfile}
 use Rattle.sheet.specs.Sheet.{Sheet}
-use Rattle.lookup.specs.Lookup.{profileAndRows}
-use Rattle.lookup.specs.declared.profiles.ProfileAndRows.{ProfileAndRows}
-use Rattle.lookup.specs.declared.profiles.ProfileAndRows.the-variants.{Absent, Present}
+use Rattle.lookup.specs.Lookup.{ProfileAndRows, Absent, Present, profileAndRows}
 use Rattle.range.specs.Selectivity.{unitEstimate, defaultEstimate, nonNullFraction}
 
 -- a column and itself: only a null is not equal to itself, and null-safe it is

@@ -13,9 +13,7 @@ use Rattle.records.specs.declared.expressions.BinaryOp.{BinaryOp}
 use Rattle.records.specs.declared.expressions.BinaryOp.the-variants.{Eq, IsNotDistinctFrom, NotEq, Lt, LtEq, Gt, GtEq, Add, Subtract, Multiply, Divide}
 use Rattle.sheet.specs.Sheet.{Sheet}
 use Rattle.sketch.specs.Frequent.{frequentValueSelectivity}
-use Rattle.lookup.specs.Lookup.{profileAndRows}
-use Rattle.lookup.specs.declared.profiles.ProfileAndRows.{ProfileAndRows}
-use Rattle.lookup.specs.declared.profiles.ProfileAndRows.the-variants.{Absent, Present}
+use Rattle.lookup.specs.Lookup.{ProfileAndRows, Absent, Present, profileAndRows}
 use Rattle.range.specs.Selectivity.{unitEstimate, defaultEstimate, nonNullFraction}
 use Rattle.range.specs.Range.{rangeSelectivity}
 
@@ -27,9 +25,8 @@ equalitySelectivity frequent nonNull distinct = cond (frequent .present) (freque
 abbrev pub equalityPart : Sheet → ColumnProfile → Scalar → Float → Float
 equalityPart sheet profile literal nonNull = equalitySelectivity (frequentValueSelectivity (sheet .sketches) profile literal) nonNull (profile .distinct .value)
 
-abbrev pub rangePart : Sheet → ColumnProfile → Scalar → BinaryOp → Float → Float
-rangePart sheet profile literal op nonNull =
-    mul binary64 (rangeSelectivity profile literal op (sheet .settings .«range_fallback_selectivity») .value) nonNull
+abbrev pub rangePart : Float → ColumnProfile → Scalar → BinaryOp → Float → Float
+rangePart fallback profile literal op nonNull = mul binary64 (rangeSelectivity profile literal op fallback .value) nonNull
 
 -- by the operator; the default where it compares nothing, and for IS NOT DISTINCT FROM
 unfoldable pub comparisonValue : Sheet → ColumnProfile → Scalar → BinaryOp → Float → Float → Float
@@ -37,10 +34,10 @@ unfolding rangeSelectivity
 comparisonValue sheet profile literal Eq nonNull equality = equality
 comparisonValue sheet profile literal IsNotDistinctFrom nonNull equality = sheet .settings .«default_predicate_selectivity»
 comparisonValue sheet profile literal NotEq nonNull equality = f64Max (sub binary64 nonNull equality) f64Zero
-comparisonValue sheet profile literal Lt nonNull equality = rangePart sheet profile literal Lt nonNull
-comparisonValue sheet profile literal LtEq nonNull equality = rangePart sheet profile literal LtEq nonNull
-comparisonValue sheet profile literal Gt nonNull equality = rangePart sheet profile literal Gt nonNull
-comparisonValue sheet profile literal GtEq nonNull equality = rangePart sheet profile literal GtEq nonNull
+comparisonValue sheet profile literal Lt nonNull equality = rangePart (sheet .settings .«range_fallback_selectivity») profile literal Lt nonNull
+comparisonValue sheet profile literal LtEq nonNull equality = rangePart (sheet .settings .«range_fallback_selectivity») profile literal LtEq nonNull
+comparisonValue sheet profile literal Gt nonNull equality = rangePart (sheet .settings .«range_fallback_selectivity») profile literal Gt nonNull
+comparisonValue sheet profile literal GtEq nonNull equality = rangePart (sheet .settings .«range_fallback_selectivity») profile literal GtEq nonNull
 comparisonValue sheet profile literal Add nonNull equality = sheet .settings .«default_predicate_selectivity»
 comparisonValue sheet profile literal Subtract nonNull equality = sheet .settings .«default_predicate_selectivity»
 comparisonValue sheet profile literal Multiply nonNull equality = sheet .settings .«default_predicate_selectivity»

@@ -9,9 +9,7 @@ use Rattle.estimate.specs.declared.Estimate.{Estimate}
 use Rattle.records.specs.declared.expressions.UnaryOp.{UnaryOp}
 use Rattle.records.specs.declared.expressions.UnaryOp.the-variants.{Not, IsNull, IsNotNull, Negate}
 use Rattle.sheet.specs.Sheet.{Sheet}
-use Rattle.lookup.specs.Lookup.{expressionOf, profileAndRows}
-use Rattle.lookup.specs.declared.profiles.ProfileAndRows.{ProfileAndRows}
-use Rattle.lookup.specs.declared.profiles.ProfileAndRows.the-variants.{Absent, Present}
+use Rattle.lookup.specs.Lookup.{ProfileAndRows, Absent, Present, expressionOf, profileAndRows}
 use Rattle.range.specs.Selectivity.{unitEstimate, defaultEstimate}
 use Rattle.parts.specs.Parts.{columnRef}
 use Rattle.parts.specs.declared.OptionColumn.{OptionColumn}

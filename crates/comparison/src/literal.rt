@@ -1,9 +1,11 @@
 // binary_selectivity of the source's analysis.rs for a column and a literal.
 ghost use mathlib.Core.Path.{_≡_};
-ghost use Prim.Native.Nat.{_<_, _^_};
+ghost use Prim.Native.Nat.{_+_, _<_, _^_};
+ghost use Rattle.layout.specs.Places.{countSize};
 ghost use Rattle.scalar.specs.Types.{isNull};
 ghost use Rattle.scalar_bytes.specs.Reading.{scalarAt};
 ghost use Rattle.records.specs.Columns.{columnProfileAt};
+ghost use Rattle.records.specs.Settings.{settingsAt};
 ghost use Rattle.sheet.specs.Sheet.{sheetOf};
 ghost use Rattle.comparison.specs.Literal.{equalitySelectivity, equalityPart, rangePart, comparisonValue, profileSelectivity, literalSelectivity};
 use estimate::Estimate;
@@ -63,16 +65,16 @@ fn equality_part(s: &[u8], q: Sections, profile: usize, literal: usize, non_null
 
 fn range_part(
     s: &[u8],
-    q: Sections,
+    settings: u16,
     profile: usize,
     literal: usize,
     op: BinaryOp,
     non_null: f64,
 ) -> f64
     requires { ⌜ (profile < 2 ^ 40) × (literal < 2 ^ 40) ⌝ }
-    ensures { λ r. ⌜ r ≡ rangePart (sheetOf (now (s .entry)) q) (columnProfileAt (now (s .entry)) profile) (scalarAt (now (s .entry)) literal) op «non_null» ⌝ }
+    ensures { λ r. ⌜ r ≡ rangePart (settingsAt (now (s .entry)) (settings + countSize) .«range_fallback_selectivity») (columnProfileAt (now (s .entry)) profile) (scalarAt (now (s .entry)) literal) op «non_null» ⌝ }
 {
-    let fallback = range_fallback_selectivity(s, q);
+    let fallback = range_fallback_selectivity(s, settings);
     range_selectivity(s, profile, literal, op, fallback).value * non_null
 }
 
@@ -95,10 +97,10 @@ fn comparison_value(
             let equality = equality_part(s, q, profile, literal, non_null);
             f64_max(non_null - equality, 0.0)
         }
-        BinaryOp::Lt => range_part(s, q, profile, literal, BinaryOp::Lt, non_null),
-        BinaryOp::LtEq => range_part(s, q, profile, literal, BinaryOp::LtEq, non_null),
-        BinaryOp::Gt => range_part(s, q, profile, literal, BinaryOp::Gt, non_null),
-        BinaryOp::GtEq => range_part(s, q, profile, literal, BinaryOp::GtEq, non_null),
+        BinaryOp::Lt => range_part(s, q.settings, profile, literal, BinaryOp::Lt, non_null),
+        BinaryOp::LtEq => range_part(s, q.settings, profile, literal, BinaryOp::LtEq, non_null),
+        BinaryOp::Gt => range_part(s, q.settings, profile, literal, BinaryOp::Gt, non_null),
+        BinaryOp::GtEq => range_part(s, q.settings, profile, literal, BinaryOp::GtEq, non_null),
         BinaryOp::Add => default_predicate_selectivity(s, q),
         BinaryOp::Subtract => default_predicate_selectivity(s, q),
         BinaryOp::Multiply => default_predicate_selectivity(s, q),

@@ -14,7 +14,7 @@ use Rattle.records.specs.declared.expressions.Expression.{Expression}
 use Rattle.records.specs.declared.expressions.Expression.the-variants.{Literal, ColumnRef, Unary, Binary, Nary, Like, Other}
 use Rattle.expression_rules.specs.Expressions.{expressionRefusal}
 use Rattle.expression_rules.proofs.RoomLaws.{column-ref-below}
-use Rattle.sheet.specs.Order.{sectionAt}
+use Rattle.sheet.specs.Order.{expressionsNumber, sectionAt}
 use Rattle.sheet.specs.Rules.{recordRefusal}
 use Rattle.sheet.specs.Check.{sheetRefusal}
 use Rattle.sheet.specs.Sheet.{Sheet, recordsIn, sheetIn, conjunctsIn}
@@ -28,7 +28,8 @@ use Rattle.lookup.specs.Lookup.{expressionOf}
 use Rattle.parts.specs.Parts.{columnRef, isNullSafe, bothColumns, columnEqualityFromParts, equalityIn, columnEquality}
 use Rattle.parts.specs.declared.OptionColumn.{OptionColumn}
 use Rattle.parts.specs.declared.OptionColumn.the-variants.{Absent, Present}
-use Rattle.equality_pairs.specs.Pairs.{EqualityPair, nullSafeIn, pairOf, equalityPair, equalityPairs}
+use Rattle.equality_pairs.specs.Pairs.{nullSafeIn, pairOf, equalityPair, equalityPairs}
+use Rattle.equality_pairs.specs.declared.pairs.EqualityPair.{EqualityPair}
 use Rattle.demand.specs.Claim.{opOf, Join, Equates}
 use Rattle.demand.specs.Demand.{joinIn}
 use Rattle.demand.proofs.Kept.{Kept}
@@ -39,13 +40,13 @@ use Rattle.demand.proofs.Kept.{Kept}
 record Reads (sheet : Sheet) (x : Expression) (p : EqualityPair) : Type 0 where
   left : ℕ
   right : ℕ
-  binary : x ≡ Binary (opOf (p .nullSafe)) left right
+  binary : x ≡ Binary (opOf (p .«null_safe»)) left right
   leftColumn : expressionOf sheet left ≡ ColumnRef (p .left)
   rightColumn : expressionOf sheet right ≡ ColumnRef (p .right)
 
 -- its operator and its children
 abbrev Parts : BinaryOp → Expression → Expression → EqualityPair → Type 0
-Parts op l r p = (op ≡ opOf (p .nullSafe)) × (l ≡ ColumnRef (p .left)) × (r ≡ ColumnRef (p .right))
+Parts op l r p = (op ≡ opOf (p .«null_safe»)) × (l ≡ ColumnRef (p .left)) × (r ≡ ColumnRef (p .right))
 
 columns-read : (nullSafe : Bool) (l r : Expression) (p : EqualityPair) → List·Memᴰ p (pairOf nullSafe (bothColumns (columnRef l) (columnRef r))) → Parts (opOf nullSafe) l r p
 columns-read nullSafe (Literal value) r p m = absurd (List·Memᴰ·not-nil m)
@@ -61,8 +62,8 @@ columns-read nullSafe (ColumnRef a) (Nary op first count) p m = absurd (List·Me
 columns-read nullSafe (ColumnRef a) Like p m = absurd (List·Memᴰ·not-nil m)
 columns-read nullSafe (ColumnRef a) Other p m = absurd (List·Memᴰ·not-nil m)
 columns-read nullSafe (ColumnRef a) (ColumnRef b) p m =
-    let e : record { left = a; right = b; nullSafe = nullSafe } ≡ p = sym (List·Memᴰ·eq-of-singleton m) in
-    (ap (λ (q : EqualityPair). opOf (q .nullSafe)) e, ap (λ (q : EqualityPair). ColumnRef (q .left)) e, ap (λ (q : EqualityPair). ColumnRef (q .right)) e)
+    let e : record { left = a; right = b; «null_safe» = nullSafe } ≡ p = sym (List·Memᴰ·eq-of-singleton m) in
+    (ap (λ (q : EqualityPair). opOf (q .«null_safe»)) e, ap (λ (q : EqualityPair). ColumnRef (q .left)) e, ap (λ (q : EqualityPair). ColumnRef (q .right)) e)
 
 parts-read : (op : BinaryOp) (l r : Expression) (p : EqualityPair) → List·Memᴰ p (pairOf (isNullSafe op) (columnEqualityFromParts op l r)) → Parts op l r p
 unfolding columnEqualityFromParts
@@ -91,16 +92,16 @@ equality-read sheet (Binary op left right) p m =
 
 parts-given : (p : EqualityPair) (op : BinaryOp) (l r : Expression) → Parts op l r p → List·Memᴰ p (pairOf (isNullSafe op) (columnEqualityFromParts op l r))
 unfolding columnEqualityFromParts
-parts-given p op l r (e, f, g) = rw (e, f, g) (given (p .nullSafe))
+parts-given p op l r (e, f, g) = rw (e, f, g) (given (p .«null_safe»))
   where
-    given : (t : Bool) → List·Memᴰ (record { left = p .left; right = p .right; nullSafe = t }) (pairOf (isNullSafe (opOf t)) (columnEqualityFromParts (opOf t) (ColumnRef (p .left)) (ColumnRef (p .right))))
+    given : (t : Bool) → List·Memᴰ (record { left = p .left; right = p .right; «null_safe» = t }) (pairOf (isNullSafe (opOf t)) (columnEqualityFromParts (opOf t) (ColumnRef (p .left)) (ColumnRef (p .right))))
     given true = List·Memᴰ·head refl
     given false = List·Memᴰ·head refl
 
 equality-given : (sheet : Sheet) (x : Expression) (p : EqualityPair) → Reads sheet x p → List·Memᴰ p (pairOf (nullSafeIn x) (equalityIn sheet x))
 equality-given sheet x p h =
     subst (λ (y : Expression). List·Memᴰ p (pairOf (nullSafeIn y) (equalityIn sheet y))) (sym (h .binary))
-    (parts-given p (opOf (p .nullSafe)) (expressionOf sheet (h .left)) (expressionOf sheet (h .right)) (refl, h .leftColumn, h .rightColumn))
+    (parts-given p (opOf (p .«null_safe»)) (expressionOf sheet (h .left)) (expressionOf sheet (h .right)) (refl, h .leftColumn, h .rightColumn))
 
 pair-from : (sheet : Sheet) (es : List ℕ) (p : EqualityPair) → List·Memᴰ p (equalityPairs sheet es) → (e : ℕ) × List·Memᴰ e es × Reads sheet (expressionOf sheet e) p
 unfolding equalityPairs equalityPair columnEquality
@@ -118,7 +119,7 @@ pair-to sheet (d ∷ es) p e m h =
     (λ (k : List·Memᴰ e es). Memᴰ·append-right (equalityPair sheet d) (pair-to sheet es p e k h))
     (List·Memᴰ·cases-cons m)
 
-pub pairs-law : (join : Join) (p : EqualityPair) → List·Memᴰ p (equalityPairs (join .sheet) (join .conjuncts)) ↔ Equates join (p .left) (p .right) (p .nullSafe)
+pub pairs-law : (join : Join) (p : EqualityPair) → List·Memᴰ p (equalityPairs (join .sheet) (join .conjuncts)) ↔ Equates join (p .left) (p .right) (p .«null_safe»)
 pairs-law join p = (
   λ m. let r = pair-from (join .sheet) (join .conjuncts) p m in record { conjunct = r .0; stands = r .1; left = r .2 .left; right = r .2 .right; binary = r .2 .binary; leftColumn = r .2 .leftColumn; rightColumn = r .2 .rightColumn },
   λ h. pair-to (join .sheet) (join .conjuncts) p (h .conjunct) (h .stands) record { left = h .left; right = h .right; binary = h .binary; leftColumn = h .leftColumn; rightColumn = h .rightColumn },
@@ -152,13 +153,13 @@ each-or P (x ∷ xs) d h p zero = h x (List·Memᴰ·head refl)
 each-or P (x ∷ xs) d h p (suc i) = each-or P xs d (λ y m. h y (List·Memᴰ·tail m)) p i
 
 module _ (s : List ℕ) (accepted : sheetRefusal s ≡ 0) where
-  expressions : Each ColumnBelow (recordsIn Expressions expressionAt s (sectionAt s 9))
+  expressions : Each ColumnBelow (recordsIn Expressions expressionAt s (sectionAt s expressionsNumber))
   unfolding recordRefusal
-  expressions = each-record ColumnBelow Expressions expressionAt s (sectionAt s 9) (λ i l. expression-below s _ i _ (accepted-record s accepted 9 (omega arith) i l))
+  expressions = each-record ColumnBelow Expressions expressionAt s (sectionAt s expressionsNumber) (λ i l. expression-below s _ i _ (accepted-record s accepted expressionsNumber (omega arith) i l))
 
   column-below : (e column : ℕ) → expressionOf (sheetIn s) e ≡ ColumnRef column → column < 128
   unfolding sheetIn
-  column-below e column q = subst ColumnBelow q (each-or ColumnBelow (recordsIn Expressions expressionAt s (sectionAt s 9)) Other expressions tt e)
+  column-below e column q = subst ColumnBelow q (each-or ColumnBelow (recordsIn Expressions expressionAt s (sectionAt s expressionsNumber)) Other expressions tt e)
 
   -- of any conjuncts, at most 64
   pub kept-with : (conjuncts : List ℕ) → length conjuncts ≤ 64 → Kept (record { sheet = sheetIn s; conjuncts = conjuncts })

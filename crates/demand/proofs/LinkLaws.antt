@@ -9,11 +9,12 @@ use Rattle.sheet.specs.Sheet.{Sheet}
 use Rattle.records.specs.Lists.{itself}
 use Rattle.class_state.specs.State.{find, apart, withClasses, fromProfiles}
 use Rattle.class_state.specs.declared.EquivalenceClassState.{EquivalenceClassState}
-use Rattle.equality_pairs.specs.Pairs.{EqualityPair, equalityPairs}
+use Rattle.equality_pairs.specs.Pairs.{equalityPairs}
+use Rattle.equality_pairs.specs.declared.pairs.EqualityPair.{EqualityPair}
 use Rattle.equality_pairs.specs.NonNull.{nonNullMarks}
 use Rattle.edge_order.proofs.SortLaws.{sort-in, in-sort}
 use Rattle.edge.specs.declared.EqualityEdge.{EqualityEdge}
-use Rattle.edge_fold.specs.Edges.{edgeBetween, edgeOf, edgeBefore, equalityEdges}
+use Rattle.edge_fold.specs.Edges.{equalityEdge, edgeOf, edgeBefore, equalityEdges}
 use Rattle.edge_fold.specs.Fold.{noEquality, foldedPairs}
 use Rattle.demand.specs.Claim.{Columns, Join, Equates, equated, Fact, of-left, of-right, of-conjunct, Linked, no-step, step}
 use Rattle.demand.proofs.Kept.{Kept}
@@ -84,10 +85,10 @@ module _ (join : Join) where
   -- ---- the edges are the equating conjuncts
 
   edge-ends : (pair : EqualityPair) → ends (edgeFor pair) ≡ (pair .left, pair .right)
-  unfolding edgeFor edgeOf edgeBetween
+  unfolding edgeFor edgeOf equalityEdge
   edge-ends pair = refl
 
-  edge-from : (p : Two) → List·Memᴰ p (map ends edges) → (pair : EqualityPair) × Equates join (pair .left) (pair .right) (pair .nullSafe) × ((pair .left, pair .right) ≡ p)
+  edge-from : (p : Two) → List·Memᴰ p (map ends edges) → (pair : EqualityPair) × Equates join (pair .left) (pair .right) (pair .«null_safe») × ((pair .left, pair .right) ≡ p)
   unfolding edges edgeFor equalityEdges
   edge-from p m =
       let e = Memᴰ·of-map ends edges m in
@@ -98,7 +99,7 @@ module _ (join : Join) where
   edge-to : (first second : ℕ) (nullSafe : Bool) → Equates join first second nullSafe → List·Memᴰ (first, second) (map ends edges)
   unfolding edges edgeFor equalityEdges
   edge-to first second nullSafe h =
-      let pair : EqualityPair = record { left = first; right = second; nullSafe = nullSafe } in
+      let pair : EqualityPair = record { left = first; right = second; «null_safe» = nullSafe } in
       let pairs = equalityPairs (join .sheet) (join .conjuncts) in
       subst (λ (p : Two). List·Memᴰ p (map ends edges)) (edge-ends pair) (Memᴰ·map ends (in-sort edgeBefore (map edgeFor pairs) (edgeFor pair) (Memᴰ·map edgeFor (pairs-law join pair .1 h))))
 
@@ -113,7 +114,7 @@ module _ (join : Join) where
         let r = edge-from p m in
         let first = r .0 .left in
         let second = r .0 .right in
-        subst (Joins (Fact join)) (r .2) (joins (first, second) (first ∷ second ∷ []) (of-conjunct (equated first second (r .0 .nullSafe) (r .1) refl)) (List·Memᴰ·head refl) (List·Memᴰ·tail (List·Memᴰ·head refl)))
+        subst (Joins (Fact join)) (r .2) (joins (first, second) (first ∷ second ∷ []) (of-conjunct (equated first second (r .0 .«null_safe») (r .1) refl)) (List·Memᴰ·head refl) (List·Memᴰ·tail (List·Memᴰ·head refl)))
 
     union-joins : (p : Two) → List·Memᴰ p unions → Joins (Fact join) p
     unfolding unions

@@ -6,8 +6,9 @@ use native.Mathlib.Omega.{arith}
 use native.Mathlib.Nat.{add-zero}
 use lib.ListN.{length, drop}
 use lib.Seq.{drop-at, drop-drop}
-use Rattle.le.specs.Fields.{fieldBytes, u16At, u16Bytes}
+use Rattle.le.specs.Fields.{u16At, u16Bytes}
 use Rattle.le.proofs.FieldLaws.{bytes-length, field-found}
+use Rattle.layout.specs.Places.{coverageSize}
 use Rattle.estimate.specs.Bytes.{estimateBytes}
 use Rattle.estimate.proofs.EstimateLaws.{estimate-length}
 use Rattle.number_bytes.specs.Numbers.{numbersBytes}
@@ -15,10 +16,13 @@ use Rattle.number_bytes.proofs.NumberLaws.{numbers-length}
 use Rattle.records.specs.Lists.{tabulateFrom, tabulate}
 use Rattle.records.specs.Classes.{ColumnEquivalenceClass, classHeadAt, classColumn, classAt}
 use Rattle.class_state.specs.Bytes.{classBytes, classesBytes}
+use Rattle.class_state.proofs.SizeLaws.{class-parts}
 use Rattle.join.specs.Join.{JoinSelectivityEstimate}
 use Rattle.edge_fold.specs.Coverages.{coveragesBytes}
 use Rattle.edge_fold.proofs.CoverageLaws.{coverages-length}
-use Rattle.join_answer.specs.Join.{figuresBytes, joinBytes}
+use Rattle.join_parts.specs.Parts.{figuresBytes}
+use Rattle.join_parts.proofs.PartLaws.{figures-length}
+use Rattle.join_answer.specs.Join.{joinBytes}
 use Rattle.demand.specs.Reader.{classesPlace, blockAt, behindClass, blocksFrom, behindClasses, blocks, coveragesPlace, nonNullPlace, columnIn, nonNulls}
 use Rattle.demand.specs.Claim.{Columns}
 
@@ -64,8 +68,9 @@ read-columns cs s q at h e = (columns-from cs s q at 0 (h .each) (ap (λ (k : �
 -- ---- classes
 
 read-class : (class : ColumnEquivalenceClass) (s q : List ℕ) (at : ℕ) → Short (class .columns) → drop at s ≡ classBytes class ++ q → (blockAt s at ≡ class .columns) × (drop (behindClass s at) s ≡ q)
-unfolding classAt classHeadAt classBytes
-read-class class s q at h e =
+unfolding classAt classHeadAt
+read-class class s q at h given =
+    let e = given ∙ ap (λ (l : List ℕ). l ++ q) (class-parts class) in
     let cs = class .columns in
     let head = estimateBytes (class .distinct) in
     let r = read-count s ((head ++ numbersBytes cs) ++ q) at (length cs) (h .count) (e ∙ append-assoc (u16Bytes (length cs)) (head ++ numbersBytes cs) q) in
@@ -87,13 +92,12 @@ read-classes (class ∷ classes) s q at h e =
 
 -- ---- the answer
 
-figures-length : (j : JoinSelectivityEstimate) → length (figuresBytes j) ≡ 60
-unfolding figuresBytes estimateBytes fieldBytes
-figures-length j = refl
-
 module _ (j : JoinSelectivityEstimate) (h : ShortJoin j) where
   abbrev answer : List ℕ
   answer = joinBytes j
+
+  abbrev figures : List ℕ
+  figures = figuresBytes (j .selectivity) (j .matchProbability) (j .residualSelectivity)
 
   abbrev nonNullPart : List ℕ
   nonNullPart = u16Bytes (length (j .nonNullEqualityColumns)) ++ numbersBytes (j .nonNullEqualityColumns)
@@ -106,7 +110,7 @@ module _ (j : JoinSelectivityEstimate) (h : ShortJoin j) where
 
   classes-stand : drop classesPlace answer ≡ classPart
   unfolding joinBytes
-  classes-stand = skip answer (figuresBytes j) classPart 2 60 (drop-at (u16Bytes 1) (figuresBytes j ++ classPart) 2 (bytes-length 2 1)) (figures-length j)
+  classes-stand = skip answer figures classPart 2 60 (drop-at (u16Bytes 1) (figures ++ classPart) 2 (bytes-length 2 1)) (figures-length (j .selectivity) (j .matchProbability) (j .residualSelectivity))
 
   class-count : (u16At answer classesPlace ≡ length (j .equivalenceClasses)) × (drop (classesPlace + 2) answer ≡ classesBytes (j .equivalenceClasses) ++ coveragePart)
   class-count = read-count answer (classesBytes (j .equivalenceClasses) ++ coveragePart) classesPlace (length (j .equivalenceClasses)) (h .classCount) classes-stand
@@ -128,8 +132,8 @@ module _ (j : JoinSelectivityEstimate) (h : ShortJoin j) where
   non-nulls-stand : drop (nonNullPlace answer) answer ≡ nonNullPart
   unfolding nonNullPlace
   non-nulls-stand =
-      ap (λ (n : ℕ). drop (coveragesPlace answer + 2 + 43 * n) answer) (coverage-count .0)
-      ∙ skip answer (coveragesBytes (j .leftEqualityCoverages)) nonNullPart (coveragesPlace answer + 2) (43 * length (j .leftEqualityCoverages)) (coverage-count .1) (coverages-length (j .leftEqualityCoverages))
+      ap (λ (n : ℕ). drop (coveragesPlace answer + 2 + coverageSize * n) answer) (coverage-count .0)
+      ∙ skip answer (coveragesBytes (j .leftEqualityCoverages)) nonNullPart (coveragesPlace answer + 2) (coverageSize * length (j .leftEqualityCoverages)) (coverage-count .1) (coverages-length (j .leftEqualityCoverages))
 
   non-null-count : (u16At answer (nonNullPlace answer) ≡ length (j .nonNullEqualityColumns)) × (drop (nonNullPlace answer + 2) answer ≡ numbersBytes (j .nonNullEqualityColumns))
   non-null-count = read-count answer (numbersBytes (j .nonNullEqualityColumns)) (nonNullPlace answer) (length (j .nonNullEqualityColumns)) (h .nonNull .count) non-nulls-stand

@@ -13,7 +13,8 @@ use lib.Seq.{getD-set-same, getD-set-other}
 use borrow.Author.Tests.{eqb-true, eqb-false}
 use Rattle.float.specs.Integers.{bit}
 use Rattle.selection.proofs.SelectedLaws.{selected-in, in-selected}
-use Rattle.equality_pairs.specs.Pairs.{EqualityPair, equalityPairs}
+use Rattle.equality_pairs.specs.Pairs.{equalityPairs}
+use Rattle.equality_pairs.specs.declared.pairs.EqualityPair.{EqualityPair}
 use Rattle.equality_pairs.specs.NonNull.{isMarked, withBoth, withOrdinary, extended, pass, count, passes, nonNullMarks, markedColumns}
 use Rattle.demand.specs.Claim.{Columns, Join, Equates, Equated, equated, Linked, no-step, step, LeadsToOrdinary}
 use Rattle.demand.proofs.Kept.{Kept}
@@ -192,13 +193,13 @@ ended (suc n) m ps h = go (eqb (count (pass m ps)) (count m)) refl (ended n (pas
 -- ---- the columns of ordinary equalities
 
 abbrev begun : List Bool → EqualityPair → List Bool
-begun m p = cond (p .nullSafe) m (withBoth m p)
+begun m p = cond (p .«null_safe») m (withBoth m p)
 
 begun-adds : (m : List Bool) (p : EqualityPair) → Adds m (begun m p)
-begun-adds m p = either-way (Adds m) (p .nullSafe) m (withBoth m p) (λ c h. h) (both-adds m p)
+begun-adds m p = either-way (Adds m) (p .«null_safe») m (withBoth m p) (λ c h. h) (both-adds m p)
 
 begun-length : (m : List Bool) (p : EqualityPair) → length (begun m p) ≡ length m
-begun-length m p = either-way (λ (n : List Bool). length n ≡ length m) (p .nullSafe) m (withBoth m p) refl (both-length m p)
+begun-length m p = either-way (λ (n : List Bool). length n ≡ length m) (p .«null_safe») m (withBoth m p) refl (both-length m p)
 
 ordinary-adds : (m : List Bool) (ps : List EqualityPair) → Adds m (withOrdinary m ps)
 unfolding withOrdinary
@@ -210,13 +211,13 @@ unfolding withOrdinary
 ordinary-length m [] = refl
 ordinary-length m (p ∷ ps) = ordinary-length (begun m p) ps ∙ begun-length m p
 
-ordinary-marked : (m : List Bool) (ps : List EqualityPair) → Fits (length m) ps → (p : EqualityPair) → List·Memᴰ p ps → p .nullSafe ≡ false → (c : ℕ) → List·Memᴰ c (columnsOf p) → isMarked (withOrdinary m ps) c ≡ true
+ordinary-marked : (m : List Bool) (ps : List EqualityPair) → Fits (length m) ps → (p : EqualityPair) → List·Memᴰ p ps → p .«null_safe» ≡ false → (c : ℕ) → List·Memᴰ c (columnsOf p) → isMarked (withOrdinary m ps) c ≡ true
 unfolding withOrdinary
 ordinary-marked m [] f p n o c x = absurd (List·Memᴰ·not-nil n)
 ordinary-marked m (q ∷ ps) f p n o c x =
     ⊎-elim (λ (e : p ≡ q).
     let cq : List·Memᴰ c (columnsOf q) = subst (λ (k : EqualityPair). List·Memᴰ c (columnsOf k)) e x in
-    let oq : false ≡ q .nullSafe = sym o ∙ ap (λ (k : EqualityPair). k .nullSafe) e in
+    let oq : false ≡ q .«null_safe» = sym o ∙ ap (λ (k : EqualityPair). k .«null_safe») e in
     ordinary-adds (begun m q) ps c (subst (λ (t : Bool). isMarked (cond t m (withBoth m q)) c ≡ true) oq (both-marked m q (f q (List·Memᴰ·head refl)) c cq)))
     (λ (k : List·Memᴰ p ps). ordinary-marked (begun m q) ps (λ j w. subst (λ (z : ℕ). (j .left < z) × (j .right < z)) (sym (begun-length m q)) (f j (List·Memᴰ·tail w))) p k o c x)
     (List·Memᴰ·cases-cons n)
@@ -225,7 +226,7 @@ ordinary-marked m (q ∷ ps) f p n o c x =
 
 module _ (join : Join) where
   abbrev AllEquate : List EqualityPair → Type 0
-  AllEquate ps = (p : EqualityPair) → List·Memᴰ p ps → Equates join (p .left) (p .right) (p .nullSafe)
+  AllEquate ps = (p : EqualityPair) → List·Memᴰ p ps → Equates join (p .left) (p .right) (p .«null_safe»)
 
   abbrev AllTrue : List Bool → Type 0
   AllTrue m = (c : ℕ) → isMarked m c ≡ true → LeadsToOrdinary join c
@@ -233,7 +234,7 @@ module _ (join : Join) where
   ordinary-true : (m : List Bool) (ps : List EqualityPair) → AllEquate ps → AllTrue m → AllTrue (withOrdinary m ps)
   unfolding withOrdinary
   ordinary-true m [] w h = h
-  ordinary-true m (p ∷ ps) w h = ordinary-true (begun m p) ps (λ q n. w q (List·Memᴰ·tail n)) (go (p .nullSafe) (w p (List·Memᴰ·head refl)))
+  ordinary-true m (p ∷ ps) w h = ordinary-true (begun m p) ps (λ q n. w q (List·Memᴰ·tail n)) (go (p .«null_safe») (w p (List·Memᴰ·head refl)))
     where
       go : (t : Bool) → Equates join (p .left) (p .right) t → AllTrue (cond t m (withBoth m p))
       go true e c k = h c k
@@ -257,7 +258,7 @@ module _ (join : Join) where
       go : (t : Bool) → touches m p ≡ t → AllTrue (cond t (withBoth m p) m)
       go true q c k =
           let o = some-mark m p q in
-          ⊎-elim (λ (x : List·Memᴰ c (columnsOf p)). leads-over (p .left) (p .right) (p .nullSafe) (w p (List·Memᴰ·head refl)) (o .0) c (o .1) x (h (o .0) (o .2))) (λ (x : isMarked m c ≡ true). h c x) (both-only m p c k)
+          ⊎-elim (λ (x : List·Memᴰ c (columnsOf p)). leads-over (p .left) (p .right) (p .«null_safe») (w p (List·Memᴰ·head refl)) (o .0) c (o .1) x (h (o .0) (o .2))) (λ (x : isMarked m c ≡ true). h c x) (both-only m p c k)
       go false q c k = h c k
 
   passes-true : (n : ℕ) (m : List Bool) (ps : List EqualityPair) → AllEquate ps → AllTrue m → AllTrue (passes n m ps)
@@ -289,13 +290,13 @@ module _ (join : Join) (kept : Kept join) where
   pairs = equalityPairs (join .sheet) (join .conjuncts)
 
   fits : Fits 128 pairs
-  fits p n = kept .equated (p .left) (p .right) (p .nullSafe) (pairs-law join p .0 n)
+  fits p n = kept .equated (p .left) (p .right) (p .«null_safe») (pairs-law join p .0 n)
 
   -- marks to which a pass adds none are closed under chains
   along : (r : List Bool) → Fits (length r) pairs → pass r pairs ≡ r → {a b : ℕ} → Linked (Equated join) a b → isMarked r b ≡ true → isMarked r a ≡ true
   along r f s (no-step e) h = ap (isMarked r) e ∙ h
   along r f s (step {a = a} {b = b} (g, equated first second nullSafe e q, x, y) l) h =
-      let p : EqualityPair = record { left = first; right = second; nullSafe = nullSafe } in
+      let p : EqualityPair = record { left = first; right = second; «null_safe» = nullSafe } in
       let ax : List·Memᴰ a (columnsOf p) = subst (λ (k : Columns). List·Memᴰ a k) (sym q) x in
       let by : List·Memᴰ b (columnsOf p) = subst (λ (k : Columns). List·Memᴰ b k) (sym q) y in
       ap (λ (m : List Bool). isMarked m a) (sym s) ∙ pass-over r pairs f p (pairs-law join p .1 e) b a by ax (along r f s l h)
@@ -320,7 +321,7 @@ module _ (join : Join) (kept : Kept join) where
 
   true-marked : (a : ℕ) → LeadsToOrdinary join a → isMarked marks a ≡ true
   true-marked a (c, l, o) =
-      let p : EqualityPair = record { left = o .first; right = o .second; nullSafe = false } in
+      let p : EqualityPair = record { left = o .first; right = o .second; «null_safe» = false } in
       let begins : isMarked start c ≡ true = ordinary-marked (replicate 128 false) pairs fits p (pairs-law join p .1 (o .equates)) refl c (o .stands) in
       along marks (subst (λ (n : ℕ). Fits n pairs) (sym marks-size) fits) (done .still) l (done .adds c begins)
 

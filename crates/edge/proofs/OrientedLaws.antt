@@ -1,94 +1,125 @@
--- The profiles of columns that are found in the two inputs. Assumes nothing.
+-- The profiles of an equality's columns, by their places in the two inputs. Assumes nothing.
 use Prim.Native.Nat.{ℕ}
 use mathlib.Core.Path.{_≡_, refl, sym, ap, _∙_}
-use mathlib.Core.Bool.{Bool, true, false, cond, false≢true}
-use mathlib.Core.List.{List, [], _∷_}
+use mathlib.Core.Bool.{Bool, true, false, not, _&&_, cond, false≢true}
+use mathlib.Core.List.{List}
 use lib.Dec.{eqb}
 use lib.Ieee.{Float}
+use Rattle.float.specs.Order.{f64One}
+use Rattle.records.specs.Columns.{columnProfileAt}
 use Rattle.records.specs.declared.columns.ColumnProfile.{ColumnProfile}
-use Rattle.sheet.specs.Sheet.{Sheet}
-use Rattle.lookup.specs.Lookup.{profileIn, leftProfile, rightProfile, profileAndRows}
-use Rattle.lookup.specs.declared.profiles.ProfileAndRows.{ProfileAndRows}
-use Rattle.lookup.specs.declared.profiles.ProfileAndRows.the-variants.{Absent, Present}
+use Rattle.sheet.specs.Sheet.{Sheet, sheetOf}
+use Rattle.sheet.specs.declared.Sections.{Sections}
+use Rattle.lookup.specs.Lookup.{Absent, Present, orElseProfile, leftProfile, rightProfile, profileAndRows, columnPlace}
+use Rattle.lookup.proofs.LookupLaws.{left-is, right-is}
 use Rattle.range.specs.Selectivity.{nonNullFraction}
-use Rattle.edge.specs.Oriented.{orientedAs, orElseOriented, orientedJoinColumns, joinColumnNonNullFraction}
-use Rattle.edge.specs.declared.OrientedColumns.{OrientedColumns}
-use Rattle.edge.specs.declared.OrientedColumns.the-variants.{Absent as NotOriented, Present as Oriented}
+use Rattle.edge.specs.Places.{edgePlaces, bothPlaced, placedDistinct, placedFraction}
+use Rattle.edge.specs.Oriented.{OrientedColumns, NotOriented, Oriented, orientedAs, orElseOriented, orientedJoinColumns, distinctOrOne, joinColumnDistinct, fractionOrOne, joinColumnNonNullFraction}
+use Rattle.edge.specs.declared.places.EdgePlaces.{EdgePlaces}
 
--- ---- a profile stands beside its side's rows
+module _ (s : List ℕ) (q : Sections) where
+  abbrev sheet : Sheet
+  sheet = sheetOf s q
 
-abbrev rowsOr : Float → ProfileAndRows → Float
-rowsOr rows Absent = rows
-rowsOr rows (Present p r) = r
+  abbrev leftRows : Float
+  leftRows = sheet .leftRows .value
 
-abbrev Beside : Float → ProfileAndRows → Type 0
-Beside rows found = rowsOr rows found ≡ rows
+  abbrev rightRows : Float
+  rightRows = sheet .rightRows .value
 
-beside : (rows : Float) (column : ℕ) (ps : List ColumnProfile) → Beside rows (profileIn rows column ps)
-unfolding profileIn
-beside rows column [] = refl
-beside rows column (p ∷ ps) = go (eqb (p .column) column) (beside rows column ps)
-  where
-    go : (b : Bool) → Beside rows (profileIn rows column ps) → Beside rows (cond b (Present p rows) (profileIn rows column ps))
-    go true rest = refl
-    go false rest = rest
+  -- ---- a column of each input
 
--- ---- columns that are oriented
+  module _ (u v a b : ℕ) (f : a ≡ columnPlace s (q .«left_columns») u) (g : b ≡ columnPlace s (q .«right_columns») v) where
+    abbrev pair : OrientedColumns
+    pair = Oriented u v (columnProfileAt s a) (columnProfileAt s b)
 
-abbrev isOriented : OrientedColumns → Bool
-isOriented NotOriented = false
-isOriented (Oriented x y l r) = true
+    as-placed : orientedAs u v (leftProfile sheet u) (rightProfile sheet v) ≡ cond (bothPlaced a b) pair NotOriented
+    as-placed = (λ k. orientedAs u v (sym (left-is s q u a leftRows f refl) k) (sym (right-is s q v b rightRows g refl) k)) ∙ go (eqb a 0) (eqb b 0)
+      where
+        go : (x y : Bool) → orientedAs u v (cond x Absent (Present (columnProfileAt s a) leftRows)) (cond y Absent (Present (columnProfileAt s b) rightRows)) ≡ cond (not x && not y) pair NotOriented
+        go true true = refl
+        go true false = refl
+        go false true = refl
+        go false false = refl
 
-abbrev leftColumnOr : ℕ → OrientedColumns → ℕ
-leftColumnOr d NotOriented = d
-leftColumnOr d (Oriented x y l r) = x
+    -- they have these profiles, beside the rows
+    pub found-left : bothPlaced a b ≡ true → leftProfile sheet u ≡ Present (columnProfileAt s a) leftRows
+    found-left e = sym (left-is s q u a leftRows f refl) ∙ go (eqb a 0) e
+      where
+        go : (x : Bool) → (not x && not (eqb b 0)) ≡ true → cond x Absent (Present (columnProfileAt s a) leftRows) ≡ Present (columnProfileAt s a) leftRows
+        go true e = absurd (false≢true e)
+        go false e = refl
 
-abbrev rightColumnOr : ℕ → OrientedColumns → ℕ
-rightColumnOr d NotOriented = d
-rightColumnOr d (Oriented x y l r) = y
+    pub found-right : bothPlaced a b ≡ true → rightProfile sheet v ≡ Present (columnProfileAt s b) rightRows
+    found-right e = sym (right-is s q v b rightRows g refl) ∙ go (eqb a 0) (eqb b 0) e
+      where
+        go : (x y : Bool) → (not x && not y) ≡ true → cond y Absent (Present (columnProfileAt s b) rightRows) ≡ Present (columnProfileAt s b) rightRows
+        go true y e = absurd (false≢true e)
+        go false true e = absurd (false≢true e)
+        go false false e = refl
 
-abbrev leftOr : ColumnProfile → OrientedColumns → ColumnProfile
-leftOr d NotOriented = d
-leftOr d (Oriented x y l r) = l
+  -- ---- the columns as they stand, or else exchanged
 
-abbrev rightOr : ColumnProfile → OrientedColumns → ColumnProfile
-rightOr d NotOriented = d
-rightOr d (Oriented x y l r) = r
+  module _ (left right : ℕ) (places : EdgePlaces) (is : places ≡ edgePlaces s q left right) where
+    abbrev first : Bool
+    first = bothPlaced (places .«left_in_left») (places .«right_in_right»)
 
-module _ (sheet : Sheet) (leftColumn rightColumn : ℕ) (left right : ColumnProfile) where
-  -- they have these profiles, beside the rows
-  abbrev pub Found : Type 0
-  Found = (leftProfile sheet leftColumn ≡ Present left (sheet .leftRows .value)) × (rightProfile sheet rightColumn ≡ Present right (sheet .rightRows .value))
+    abbrev second : Bool
+    second = bothPlaced (places .«right_in_left») (places .«left_in_right»)
 
-  abbrev target : OrientedColumns
-  target = Oriented leftColumn rightColumn left right
+    abbrev straight : OrientedColumns
+    straight = Oriented left right (columnProfileAt s (places .«left_in_left»)) (columnProfileAt s (places .«right_in_right»))
 
-  as-found : (u v : ℕ) → orientedAs u v (leftProfile sheet u) (rightProfile sheet v) ≡ target → Found
-  as-found u v e = go (leftProfile sheet u) refl (beside _ _ _) (rightProfile sheet v) refl (beside _ _ _) e
-    where
-      go : (a : ProfileAndRows) → leftProfile sheet u ≡ a → Beside (sheet .leftRows .value) a → (b : ProfileAndRows) → rightProfile sheet v ≡ b → Beside (sheet .rightRows .value) b → orientedAs u v a b ≡ target → Found
-      go Absent f h b g k e = absurd (false≢true (ap isOriented e))
-      go (Present p m) f h Absent g k e = absurd (false≢true (ap isOriented e))
-      go (Present p m) f h (Present p' m') g k e = (
-        ap (leftProfile sheet) (sym (ap (leftColumnOr u) e)) ∙ f ∙ ap (Present p) h ∙ ap (λ (x : ColumnProfile). Present x (sheet .leftRows .value)) (ap (leftOr p) e),
-        ap (rightProfile sheet) (sym (ap (rightColumnOr v) e)) ∙ g ∙ ap (Present p') k ∙ ap (λ (x : ColumnProfile). Present x (sheet .rightRows .value)) (ap (rightOr p') e),
-      )
+    abbrev exchanged : OrientedColumns
+    exchanged = Oriented right left (columnProfileAt s (places .«right_in_left»)) (columnProfileAt s (places .«left_in_right»))
 
-  either-found : (o p : OrientedColumns) → (o ≡ target → Found) → (p ≡ target → Found) → orElseOriented o p ≡ target → Found
-  either-found NotOriented p f g e = g e
-  either-found (Oriented x y l r) p f g e = f e
+    either : (x y : Bool) → first ≡ x → second ≡ y → orientedJoinColumns sheet left right ≡ orElseOriented (cond x straight NotOriented) (cond y exchanged NotOriented)
+    unfolding orientedJoinColumns
+    either x y e f =
+        (λ k. orElseOriented
+        (as-placed left right (places .«left_in_left») (places .«right_in_right») (ap (λ (p : EdgePlaces). p .«left_in_left») is) (ap (λ (p : EdgePlaces). p .«right_in_right») is) k)
+        (as-placed right left (places .«right_in_left») (places .«left_in_right») (ap (λ (p : EdgePlaces). p .«right_in_left») is) (ap (λ (p : EdgePlaces). p .«left_in_right») is) k))
+        ∙ (λ k. orElseOriented (cond (e k) straight NotOriented) (cond (f k) exchanged NotOriented))
 
-  pub oriented-found : (first second : ℕ) → orientedJoinColumns sheet first second ≡ target → Found
-  unfolding orientedJoinColumns
-  oriented-found first second e = either-found _ _ (as-found first second) (as-found second first) e
+    pub oriented-straight : first ≡ true → orientedJoinColumns sheet left right ≡ straight
+    oriented-straight e = either true second e refl
 
--- ---- how often they are not null
+    pub oriented-exchanged : first ≡ false → second ≡ true → orientedJoinColumns sheet left right ≡ exchanged
+    oriented-exchanged e f = either false true e f
 
-module _ (sheet : Sheet) (column : ℕ) where
-  pub fraction-left : (p : ColumnProfile) (rows : Float) → leftProfile sheet column ≡ Present p rows → nonNullFraction (p .frequency .value) rows ≡ joinColumnNonNullFraction sheet column
-  unfolding joinColumnNonNullFraction profileAndRows
-  fraction-left p rows e = rw e refl
+    pub oriented-none : first ≡ false → second ≡ false → orientedJoinColumns sheet left right ≡ NotOriented
+    oriented-none e f = either false false e f
 
-  pub fraction-right : (p : ColumnProfile) (rows : Float) → leftProfile sheet column ≡ Absent → rightProfile sheet column ≡ Present p rows → nonNullFraction (p .frequency .value) rows ≡ joinColumnNonNullFraction sheet column
-  unfolding joinColumnNonNullFraction profileAndRows
-  fraction-right p rows e f = rw (e, f) refl
+    -- a column and itself are not exchanged
+    pub exchanged-apart : first ≡ false → second ≡ true → right ≡ left → ⊥
+    exchanged-apart e f same = false≢true (sym e ∙ (λ k. bothPlaced (onLeft k) (onRight k)) ∙ f)
+      where
+        onLeft : places .«left_in_left» ≡ places .«right_in_left»
+        onLeft = ap (λ (p : EdgePlaces). p .«left_in_left») is ∙ ap (columnPlace s (q .«left_columns»)) (sym same) ∙ sym (ap (λ (p : EdgePlaces). p .«right_in_left») is)
+
+        onRight : places .«right_in_right» ≡ places .«left_in_right»
+        onRight = ap (λ (p : EdgePlaces). p .«right_in_right») is ∙ ap (columnPlace s (q .«right_columns»)) same ∙ sym (ap (λ (p : EdgePlaces). p .«left_in_right») is)
+
+  -- ---- one column
+
+  module _ (column a : ℕ) (f : a ≡ columnPlace s (q .«left_columns») column) where
+    pub distinct-placed : (b : ℕ) → b ≡ columnPlace s (q .«right_columns») column → placedDistinct s a b ≡ joinColumnDistinct sheet column
+    unfolding joinColumnDistinct profileAndRows
+    distinct-placed b g = go (eqb a 0) (eqb b 0) ∙ (λ k. distinctOrOne (orElseProfile (left-is s q column a leftRows f refl k) (right-is s q column b rightRows g refl k)))
+      where
+        go : (x y : Bool) → cond x (cond y f64One (columnProfileAt s b .distinct .value)) (columnProfileAt s a .distinct .value) ≡ distinctOrOne (orElseProfile (cond x Absent (Present (columnProfileAt s a) leftRows)) (cond y Absent (Present (columnProfileAt s b) rightRows)))
+        go true true = refl
+        go true false = refl
+        go false y = refl
+
+    pub fraction-placed : (p : ColumnProfile) → rightProfile sheet column ≡ Present p rightRows → placedFraction s a leftRows (p .frequency .value) rightRows ≡ joinColumnNonNullFraction sheet column
+    unfolding joinColumnNonNullFraction profileAndRows
+    fraction-placed p e = go (eqb a 0) ∙ (λ k. fractionOrOne (orElseProfile (left-is s q column a leftRows f refl k) (sym e k)))
+      where
+        go : (x : Bool) → cond x (nonNullFraction (p .frequency .value) rightRows) (nonNullFraction (columnProfileAt s a .frequency .value) leftRows) ≡ fractionOrOne (orElseProfile (cond x Absent (Present (columnProfileAt s a) leftRows)) (Present p rightRows))
+        go true = refl
+        go false = refl
+
+pub fraction-left : (sheet : Sheet) (column : ℕ) (p : ColumnProfile) (rows : Float) → leftProfile sheet column ≡ Present p rows → nonNullFraction (p .frequency .value) rows ≡ joinColumnNonNullFraction sheet column
+unfolding joinColumnNonNullFraction profileAndRows
+fraction-left sheet column p rows e = rw e refl

@@ -14,22 +14,20 @@ use Rattle.interval.specs.Intersection.{estimatedDistinctIntersection}
 use Rattle.interval.specs.declared.intersection.DistinctIntersection.{DistinctIntersection}
 use Rattle.sketch_join.specs.SketchJoin.{sketchJoinEstimate, sketchLeftMatchProbability}
 use Rattle.keys.specs.Keys.{singleColumnForeignKey, profileHasCompleteBasePopulation}
-use Rattle.edge.specs.Oriented.{joinColumnDistinct, orientedJoinColumns}
+use Rattle.edge.specs.Oriented.{OrientedColumns, NotOriented, Oriented, joinColumnDistinct, orientedJoinColumns}
 use Rattle.edge.specs.Inputs.{edgeInputs}
 use Rattle.edge.specs.Figures.{disjointEstimate, foreignKeyEstimate, overlapEstimate}
 use Rattle.edge.specs.declared.EqualityEdge.{EqualityEdge}
-use Rattle.edge.specs.declared.OrientedColumns.{OrientedColumns}
-use Rattle.edge.specs.declared.OrientedColumns.the-variants.{Absent as NotOriented, Present as Oriented}
 use Rattle.edge.specs.declared.EdgeInputs.{EdgeInputs}
 use Rattle.edge.specs.declared.LeftCoverage.the-variants.{Absent as NoCoverage}
 use Rattle.edge.specs.declared.EqualityEdgeEstimate.{EqualityEdgeEstimate}
 
 -- ---- columns of which the inputs have no pair
 
-unfoldable pub unorientedEstimate : Sheet → ℕ → ℕ → EqualityEdgeEstimate
-unfolding joinColumnDistinct
+-- by their distincts
+unfoldable pub unorientedEstimate : Sheet → Float → Float → EqualityEdgeEstimate
 unorientedEstimate sheet first second =
-    let pair = div binary64 f64One (f64Max (f64Max (joinColumnDistinct sheet first) (joinColumnDistinct sheet second)) f64One) in
+    let pair = div binary64 f64One (f64Max (f64Max first second) f64One) in
     record {
       «pair_selectivity» = pair;
       «left_match_probability» = clampUnit (mul binary64 (sheet .rightRows .value) pair);
@@ -39,11 +37,15 @@ unorientedEstimate sheet first second =
 
 -- ---- a left column and a right one
 
+-- a column references another one of a table that the right side has the whole of
+abbrev pub referencesWhole : Sheet → ℕ → ℕ → ℕ → ℕ → Bool
+referencesWhole sheet table column referencedTable referencedColumn =
+    singleColumnForeignKey sheet table column referencedTable referencedColumn && profileHasCompleteBasePopulation sheet (sheet .rightRows) referencedTable
+
 abbrev pub basesReferenced : Sheet → BaseColumn → BaseColumn → Bool
 basesReferenced sheet NoBase right = false
 basesReferenced sheet (Base table column) NoBase = false
-basesReferenced sheet (Base table column) (Base referencedTable referencedColumn) =
-    singleColumnForeignKey sheet table column referencedTable referencedColumn && profileHasCompleteBasePopulation sheet (sheet .rightRows) referencedTable
+basesReferenced sheet (Base table column) (Base referencedTable referencedColumn) = referencesWhole sheet table column referencedTable referencedColumn
 
 -- an ordinary equality along a foreign key into the whole of a table with rows
 unfoldable pub isReference : Sheet → Bool → BaseColumn → BaseColumn → Bool
@@ -76,7 +78,7 @@ orientedEstimate sheet leftColumn rightColumn left right nullSafe leftHint right
 
 -- the hints change places with the columns
 abbrev pub estimateAs : Sheet → EqualityEdge → OrientedColumns → EqualityEdgeEstimate
-estimateAs sheet edge NotOriented = unorientedEstimate sheet (edge .left) (edge .right)
+estimateAs sheet edge NotOriented = unorientedEstimate sheet (joinColumnDistinct sheet (edge .left)) (joinColumnDistinct sheet (edge .right))
 estimateAs sheet edge (Oriented leftColumn rightColumn left right) =
     let same = eqb leftColumn (edge .left) in
     orientedEstimate sheet leftColumn rightColumn left right (edge .«null_safe»)
@@ -84,5 +86,16 @@ estimateAs sheet edge (Oriented leftColumn rightColumn left right) =
     (cond same (edge .«right_ndv» .value) (edge .«left_ndv» .value))
 
 unfoldable pub equalityEdgeEstimate : Sheet → EqualityEdge → EqualityEdgeEstimate
-unfolding orientedJoinColumns unorientedEstimate orientedEstimate
+unfolding orientedJoinColumns joinColumnDistinct unorientedEstimate orientedEstimate
 equalityEdgeEstimate sheet edge = estimateAs sheet edge (orientedJoinColumns sheet (edge .left) (edge .right))
+
+-- the same equality, its right column first
+abbrev pub exchangedEdge : EqualityEdge → EqualityEdge
+exchangedEdge edge = record {
+  left = edge .right;
+  right = edge .left;
+  «null_safe» = edge .«null_safe»;
+  «chosen_ndv» = edge .«chosen_ndv»;
+  «left_ndv» = edge .«right_ndv»;
+  «right_ndv» = edge .«left_ndv»;
+}

@@ -1,11 +1,25 @@
 -- The figures of an equality, case by case (`equality_edge_estimate` in the source's analysis.rs). Definitions only.
-use mathlib.Core.Bool.{true, false, _||_, not, cond}
+use mathlib.Core.Bool.{Bool, true, false, _||_, not, cond}
 use lib.Ieee.{Float, binary64, add, mul, div, lt, le}
 use Rattle.float.specs.Order.{f64Zero, f64Max, clampUnit}
 use Rattle.float.specs.declared.option.OptionF64.{OptionF64}
 use Rattle.edge.specs.declared.EdgeInputs.{EdgeInputs}
 use Rattle.edge.specs.declared.EqualityEdgeEstimate.{EqualityEdgeEstimate}
+use Rattle.edge.specs.declared.LeftEqualityCoverage.{LeftEqualityCoverage}
 use Rattle.edge.specs.declared.LeftCoverage.the-variants.{Present as Coverage}
+
+-- ---- what an equality leaves of its left column
+
+abbrev pub coverage : EdgeInputs → Float → Float → Float → Bool → LeftEqualityCoverage
+coverage x intersection nonNullMatch nullMatch ordinary = record {
+  column = x .«left_column»;
+  «input_distinct» = x .«left_distinct»;
+  «input_non_null_fraction» = x .«left_non_null»;
+  «intersection_distinct» = intersection;
+  «non_null_match_probability» = nonNullMatch;
+  «null_match_probability» = nullMatch;
+  «ordinary_non_null» = ordinary;
+}
 
 -- ---- domains that share no value: nulls alone can meet
 
@@ -13,15 +27,7 @@ unfoldable pub disjointEstimate : EdgeInputs → EqualityEdgeEstimate
 disjointEstimate x = record {
   «pair_selectivity» = x .«null_pair_selectivity»;
   «left_match_probability» = x .«null_match_probability»;
-  «left_coverage» = Coverage (record {
-    column = x .«left_column»;
-    «input_distinct» = x .«left_distinct»;
-    «input_non_null_fraction» = x .«left_non_null»;
-    «intersection_distinct» = f64Zero;
-    «non_null_match_probability» = f64Zero;
-    «null_match_probability» = x .«null_match_probability»;
-    «ordinary_non_null» = not (x .«null_safe»);
-  });
+  «left_coverage» = Coverage (coverage x f64Zero f64Zero (x .«null_match_probability») (not (x .«null_safe»)));
   «domains_disjoint» = not (lt f64Zero (x .«null_pair_selectivity»));
 }
 
@@ -34,15 +40,7 @@ unfoldable pub foreignKeyEstimate : EdgeInputs → Float → EqualityEdgeEstimat
 foreignKeyEstimate x rightRows = record {
   «pair_selectivity» = perRow (x .«left_non_null») rightRows;
   «left_match_probability» = x .«left_non_null»;
-  «left_coverage» = Coverage (record {
-    column = x .«left_column»;
-    «input_distinct» = x .«left_distinct»;
-    «input_non_null_fraction» = x .«left_non_null»;
-    «intersection_distinct» = x .«left_distinct»;
-    «non_null_match_probability» = x .«left_non_null»;
-    «null_match_probability» = f64Zero;
-    «ordinary_non_null» = true;
-  });
+  «left_coverage» = Coverage (coverage x (x .«left_distinct») (x .«left_non_null») f64Zero true);
   «domains_disjoint» = false;
 }
 
@@ -77,14 +75,6 @@ overlapEstimate x intersection sketchPair sketchMatch =
     record {
       «pair_selectivity» = clampUnit pair;
       «left_match_probability» = clampUnit (add binary64 nonNullMatch (x .«null_match_probability»));
-      «left_coverage» = Coverage (record {
-        column = x .«left_column»;
-        «input_distinct» = x .«left_distinct»;
-        «input_non_null_fraction» = x .«left_non_null»;
-        «intersection_distinct» = intersection;
-        «non_null_match_probability» = nonNullMatch;
-        «null_match_probability» = x .«null_match_probability»;
-        «ordinary_non_null» = not (x .«null_safe»);
-      });
+      «left_coverage» = Coverage (coverage x intersection nonNullMatch (x .«null_match_probability») (not (x .«null_safe»)));
       «domains_disjoint» = false;
     }

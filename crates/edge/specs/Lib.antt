@@ -1,3 +1,4 @@
+pub mod Places
 pub mod Oriented
 pub mod Inputs
 pub mod Figures

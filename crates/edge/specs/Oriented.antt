@@ -2,13 +2,16 @@
 use Prim.Native.Nat.{ℕ}
 use lib.Ieee.{Float}
 use Rattle.float.specs.Order.{f64One}
+use Rattle.records.specs.declared.columns.ColumnProfile.{ColumnProfile}
 use Rattle.sheet.specs.Sheet.{Sheet}
-use Rattle.lookup.specs.Lookup.{leftProfile, rightProfile, profileIn, profileAndRows}
-use Rattle.lookup.specs.declared.profiles.ProfileAndRows.{ProfileAndRows}
-use Rattle.lookup.specs.declared.profiles.ProfileAndRows.the-variants.{Absent, Present}
+use Rattle.scan.specs.Scan.{firstWith}
+use Rattle.lookup.specs.Lookup.{ProfileAndRows, Absent, Present, leftProfile, rightProfile, profileAndRows}
 use Rattle.range.specs.Selectivity.{nonNullFraction}
-use Rattle.edge.specs.declared.OrientedColumns.{OrientedColumns}
-use Rattle.edge.specs.declared.OrientedColumns.the-variants.{Absent as NotOriented, Present as Oriented}
+
+-- the columns of an equality, the left input's first, with their profiles there
+pub data OrientedColumns : Type 0 where
+  NotOriented : OrientedColumns
+  Oriented : ℕ → ℕ → ColumnProfile → ColumnProfile → OrientedColumns
 
 -- a column of the left input and one of the right
 abbrev pub orientedAs : ℕ → ℕ → ProfileAndRows → ProfileAndRows → OrientedColumns
@@ -22,7 +25,7 @@ orElseOriented (Oriented leftColumn rightColumn left right) other = Oriented lef
 
 -- as they stand, or else exchanged
 unfoldable pub orientedJoinColumns : Sheet → ℕ → ℕ → OrientedColumns
-unfolding profileIn
+unfolding firstWith
 orientedJoinColumns sheet first second =
     orElseOriented (orientedAs first second (leftProfile sheet first) (rightProfile sheet second)) (orientedAs second first (leftProfile sheet second) (rightProfile sheet first))
 

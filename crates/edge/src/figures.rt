@@ -1,6 +1,6 @@
 // The figures of an equality, case by case.
 ghost use mathlib.Core.Path.{_≡_};
-ghost use Rattle.edge.specs.Figures.{disjointEstimate, perRow, foreignKeyEstimate, equalNonNull, uniformPairSelectivity, uniformNonNullMatchProbability, orElseFloat, atLeastUniform, overlapEstimate};
+ghost use Rattle.edge.specs.Figures.{coverage, disjointEstimate, perRow, foreignKeyEstimate, equalNonNull, uniformPairSelectivity, uniformNonNullMatchProbability, orElseFloat, atLeastUniform, overlapEstimate};
 use crate::EdgeInputs;
 use crate::EqualityEdgeEstimate;
 use crate::LeftCoverage;
@@ -10,6 +10,27 @@ use float::order::clamp_unit;
 use float::order::f64_max;
 use rules::either;
 
+// What an equality leaves of its left column.
+fn coverage(
+    x: EdgeInputs,
+    intersection: f64,
+    non_null_match: f64,
+    null_match: f64,
+    ordinary: bool,
+) -> LeftEqualityCoverage
+    ensures { λ r. ⌜ r ≡ coverage x intersection «non_null_match» «null_match» ordinary ⌝ }
+{
+    LeftEqualityCoverage {
+        column: x.left_column,
+        input_distinct: x.left_distinct,
+        input_non_null_fraction: x.left_non_null,
+        intersection_distinct: intersection,
+        non_null_match_probability: non_null_match,
+        null_match_probability: null_match,
+        ordinary_non_null: ordinary,
+    }
+}
+
 // Domains that share no value.
 pub fn disjoint_estimate(x: EdgeInputs) -> EqualityEdgeEstimate
     ensures { λ r. ⌜ r ≡ disjointEstimate x ⌝ }
@@ -18,15 +39,13 @@ pub fn disjoint_estimate(x: EdgeInputs) -> EqualityEdgeEstimate
     EqualityEdgeEstimate {
         pair_selectivity: x.null_pair_selectivity,
         left_match_probability: x.null_match_probability,
-        left_coverage: LeftCoverage::Present(LeftEqualityCoverage {
-            column: x.left_column,
-            input_distinct: x.left_distinct,
-            input_non_null_fraction: x.left_non_null,
-            intersection_distinct: 0.0,
-            non_null_match_probability: 0.0,
-            null_match_probability: x.null_match_probability,
-            ordinary_non_null: !x.null_safe,
-        }),
+        left_coverage: LeftCoverage::Present(coverage(
+            x,
+            0.0,
+            0.0,
+            x.null_match_probability,
+            !x.null_safe,
+        )),
         domains_disjoint: !nulls_can_match,
     }
 }
@@ -47,15 +66,13 @@ pub fn foreign_key_estimate(x: EdgeInputs, right_rows: f64) -> EqualityEdgeEstim
     EqualityEdgeEstimate {
         pair_selectivity: per_row(x.left_non_null, right_rows),
         left_match_probability: x.left_non_null,
-        left_coverage: LeftCoverage::Present(LeftEqualityCoverage {
-            column: x.left_column,
-            input_distinct: x.left_distinct,
-            input_non_null_fraction: x.left_non_null,
-            intersection_distinct: x.left_distinct,
-            non_null_match_probability: x.left_non_null,
-            null_match_probability: 0.0,
-            ordinary_non_null: true,
-        }),
+        left_coverage: LeftCoverage::Present(coverage(
+            x,
+            x.left_distinct,
+            x.left_non_null,
+            0.0,
+            true,
+        )),
         domains_disjoint: false,
     }
 }
@@ -121,15 +138,13 @@ pub fn overlap_estimate(
     EqualityEdgeEstimate {
         pair_selectivity: clamp_unit(pair),
         left_match_probability: clamp_unit(non_null_match + x.null_match_probability),
-        left_coverage: LeftCoverage::Present(LeftEqualityCoverage {
-            column: x.left_column,
-            input_distinct: x.left_distinct,
-            input_non_null_fraction: x.left_non_null,
-            intersection_distinct: intersection,
-            non_null_match_probability: non_null_match,
-            null_match_probability: x.null_match_probability,
-            ordinary_non_null: !x.null_safe,
-        }),
+        left_coverage: LeftCoverage::Present(coverage(
+            x,
+            intersection,
+            non_null_match,
+            x.null_match_probability,
+            !x.null_safe,
+        )),
         domains_disjoint: false,
     }
 }

@@ -1,13 +1,12 @@
 // equality_edge_estimate of the source's analysis.rs: what one equality between columns of a join's
 // two inputs comes to.
 ghost use mathlib.Core.Path.{_≡_};
-ghost use mathlib.Core.Bool.{_&&_, cond};
+ghost use mathlib.Core.Bool.{true};
+ghost use Rattle.records.specs.Columns.{columnProfileAt};
 ghost use Rattle.sheet.specs.Sheet.{sheetOf};
-ghost use Rattle.lookup.specs.Lookup.{leftProfile, rightProfile};
-ghost use Rattle.lookup.specs.declared.profiles.ProfileAndRows.the-variants.{Present};
 ghost use Rattle.sketch_join.specs.SketchJoin.{sketchJoinEstimate, sketchLeftMatchProbability};
-ghost use Rattle.keys.specs.Keys.{singleColumnForeignKey, profileHasCompleteBasePopulation};
-ghost use Rattle.edge.specs.Edge.{unorientedEstimate, basesReferenced, isReference, unlessNullSafe, estimateBySketches, estimateByInputs, orientedEstimate, equalityEdgeEstimate};
+ghost use Rattle.edge.specs.Places.{edgePlaces, bothPlaced};
+ghost use Rattle.edge.specs.Edge.{unorientedEstimate, referencesWhole, basesReferenced, isReference, unlessNullSafe, estimateBySketches, estimateByInputs, orientedEstimate, equalityEdgeEstimate, exchangedEdge};
 use estimate::Estimate;
 use figures::disjoint_estimate;
 use figures::foreign_key_estimate;
@@ -24,17 +23,20 @@ use keys::profile_has_complete_base_population;
 use keys::single_column_foreign_key;
 use lookup::profiles::left_rows;
 use lookup::profiles::right_rows;
-use oriented::join_column_distinct;
-use oriented::oriented_join_columns;
+use places::EdgePlaces;
+use places::both_placed;
+use places::exchanged_places;
+use places::placed_distinct;
 use records::columns::BaseColumn;
 use records::columns::ColumnProfile;
+use records::columns::column_profile_at;
 use sheet::Sections;
 use sketch_join::sketch_join_estimate;
 use sketch_join::sketch_left_match_probability;
 
 mod figures;
 mod inputs;
-mod oriented;
+pub mod places;
 
 // The source's EqualityEdge.
 pub struct EqualityEdge {
@@ -44,17 +46,6 @@ pub struct EqualityEdge {
     pub chosen_ndv: Estimate,
     pub left_ndv: Estimate,
     pub right_ndv: Estimate,
-}
-
-// The columns of an equality, the left input's first, with their profiles there.
-pub enum OrientedColumns {
-    Absent,
-    Present {
-        left_column: u16,
-        right_column: u16,
-        left: ColumnProfile,
-        right: ColumnProfile,
-    },
 }
 
 // What the figures of an equality are made from.
@@ -91,13 +82,11 @@ pub struct EqualityEdgeEstimate {
     pub domains_disjoint: bool,
 }
 
-// Columns of which the inputs have no pair.
-fn unoriented_estimate(s: &[u8], q: Sections, first: u16, second: u16) -> EqualityEdgeEstimate
+// Columns of which the inputs have no pair, by their distincts.
+fn unoriented_estimate(s: &[u8], q: Sections, first: f64, second: f64) -> EqualityEdgeEstimate
     ensures { λ r. ⌜ r ≡ unorientedEstimate (sheetOf (now (s .entry)) q) first second ⌝ }
 {
-    let first_distinct = join_column_distinct(s, q, first);
-    let second_distinct = join_column_distinct(s, q, second);
-    let pair_selectivity = 1.0 / f64_max(f64_max(first_distinct, second_distinct), 1.0);
+    let pair_selectivity = 1.0 / f64_max(f64_max(first, second), 1.0);
     EqualityEdgeEstimate {
         pair_selectivity,
         left_match_probability: clamp_unit(right_rows(s, q) * pair_selectivity),
@@ -115,7 +104,7 @@ fn references_whole(
     referenced_table: u16,
     referenced_column: u16,
 ) -> bool
-    ensures { λ r. ⌜ r ≡ (singleColumnForeignKey (sheetOf (now (s .entry)) q) table column «referenced_table» «referenced_column» && profileHasCompleteBasePopulation (sheetOf (now (s .entry)) q) (sheetOf (now (s .entry)) q .rightRows) «referenced_table») ⌝ }
+    ensures { λ r. ⌜ r ≡ referencesWhole (sheetOf (now (s .entry)) q) table column «referenced_table» «referenced_column» ⌝ }
 {
     if single_column_foreign_key(s, q, table, column, referenced_table, referenced_column) {
         let rows = right_rows_estimate(s, q);
@@ -245,32 +234,19 @@ fn estimate_by_inputs(
     estimate_by_sketches(s, q, x, left, right, intersection.distinct)
 }
 
-// As `edge_inputs`.
+// A column of the left input and one of the right.
 fn oriented_estimate(
     s: &[u8],
     q: Sections,
-    left_column: u16,
-    right_column: u16,
-    left: ColumnProfile,
-    right: ColumnProfile,
-    null_safe: bool,
-    left_hint: f64,
-    right_hint: f64,
+    edge: EqualityEdge,
+    places: EdgePlaces,
 ) -> EqualityEdgeEstimate
-    requires { ⌜ (leftProfile (sheetOf (now s) q) «left_column» ≡ Present left (sheetOf (now s) q .leftRows .value)) × (rightProfile (sheetOf (now s) q) «right_column» ≡ Present right (sheetOf (now s) q .rightRows .value)) ⌝ }
-    ensures { λ r. ⌜ r ≡ orientedEstimate (sheetOf (now (s .entry)) q) «left_column» «right_column» left right «null_safe» «left_hint» «right_hint» ⌝ }
+    requires { ⌜ (places ≡ edgePlaces (now s) q (edge .left) (edge .right)) × (bothPlaced (places .«left_in_left») (places .«right_in_right») ≡ true) ⌝ }
+    ensures { λ r. ⌜ r ≡ orientedEstimate (sheetOf (now (s .entry)) q) (edge .left) (edge .right) (columnProfileAt (now (s .entry)) (places .«left_in_left»)) (columnProfileAt (now (s .entry)) (places .«right_in_right»)) (edge .«null_safe») (edge .«left_ndv» .value) (edge .«right_ndv» .value) ⌝ }
 {
-    let x = edge_inputs(
-        s,
-        q,
-        left_column,
-        right_column,
-        left,
-        right,
-        null_safe,
-        left_hint,
-        right_hint,
-    );
+    let left = column_profile_at(s, places.left_in_left as usize);
+    let right = column_profile_at(s, places.right_in_right as usize);
+    let x = edge_inputs(s, q, edge, places.right_in_left, left, right);
     let intersection = estimated_distinct_intersection(
         left,
         right,
@@ -280,41 +256,39 @@ fn oriented_estimate(
     estimate_by_inputs(s, q, x, left, right, intersection)
 }
 
-fn hint(own: bool, ndv: f64, other: f64) -> f64
-    ensures { λ r. ⌜ r ≡ cond own ndv other ⌝ }
+fn exchanged_edge(edge: EqualityEdge) -> EqualityEdge
+    ensures { λ r. ⌜ r ≡ exchangedEdge edge ⌝ }
 {
-    if own {
-        return ndv;
+    let chosen_ndv = edge.chosen_ndv;
+    let left_ndv = edge.right_ndv;
+    let right_ndv = edge.left_ndv;
+    EqualityEdge {
+        left: edge.right,
+        right: edge.left,
+        null_safe: edge.null_safe,
+        chosen_ndv,
+        left_ndv,
+        right_ndv,
     }
-    other
 }
 
-pub fn equality_edge_estimate(s: &[u8], q: Sections, edge: EqualityEdge) -> EqualityEdgeEstimate
+// The columns as they stand, or else exchanged. The distincts of their classes change places with them.
+pub fn equality_edge_estimate(
+    s: &[u8],
+    q: Sections,
+    edge: EqualityEdge,
+    places: EdgePlaces,
+) -> EqualityEdgeEstimate
+    requires { ⌜ places ≡ edgePlaces (now s) q (edge .left) (edge .right) ⌝ }
     ensures { λ r. ⌜ r ≡ equalityEdgeEstimate (sheetOf (now (s .entry)) q) edge ⌝ }
 {
-    let oriented = oriented_join_columns(s, q, edge.left, edge.right);
-    match oriented {
-        OrientedColumns::Absent => unoriented_estimate(s, q, edge.left, edge.right),
-        OrientedColumns::Present {
-            left_column,
-            right_column,
-            left,
-            right,
-        } => {
-            let same = left_column == edge.left;
-            let left_hint = hint(same, edge.left_ndv.value, edge.right_ndv.value);
-            let right_hint = hint(same, edge.right_ndv.value, edge.left_ndv.value);
-            oriented_estimate(
-                s,
-                q,
-                left_column,
-                right_column,
-                left,
-                right,
-                edge.null_safe,
-                left_hint,
-                right_hint,
-            )
-        }
+    if both_placed(places.left_in_left, places.right_in_right) {
+        return oriented_estimate(s, q, edge, places);
     }
+    if both_placed(places.right_in_left, places.left_in_right) {
+        return oriented_estimate(s, q, exchanged_edge(edge), exchanged_places(places));
+    }
+    let first = placed_distinct(s, places.left_in_left, places.left_in_right);
+    let second = placed_distinct(s, places.right_in_left, places.right_in_right);
+    unoriented_estimate(s, q, first, second)
 }

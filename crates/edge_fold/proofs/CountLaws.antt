@@ -6,7 +6,7 @@ use native.Mathlib.Omega.{arith}
 use lib.ListN.{length, length-append, length-map}
 use Rattle.sheet.specs.Sheet.{Sheet}
 use Rattle.class_state.specs.State.{equivalent, fromProfiles}
-use Rattle.equality_pairs.specs.Pairs.{EqualityPair}
+use Rattle.equality_pairs.specs.declared.pairs.EqualityPair.{EqualityPair}
 use Rattle.equality_pairs.specs.NonNull.{nonNullMarks}
 use Rattle.edge_order.proofs.SortLaws.{sort-length}
 use Rattle.edge.specs.Edge.{equalityEdgeEstimate}

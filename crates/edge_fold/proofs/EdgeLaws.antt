@@ -15,32 +15,34 @@ use Rattle.records.specs.Lists.{tabulate, itself}
 use Rattle.class_state.specs.State.{noDistinct}
 use Rattle.class_state.specs.declared.EquivalenceClassState.{EquivalenceClassState}
 use Rattle.equality_pairs.specs.Pairs.{pairAt, pairsIn}
+use Rattle.equality_pairs.specs.declared.pairs.EqualityPair.{EqualityPair}
+use Rattle.equality_pairs.specs.declared.pairs.EqualityPairs.{EqualityPairs}
 use Rattle.edge_order.specs.Sort.{sort}
 use Rattle.edge_order.specs.Order.{standsBefore, numberBefore, edgeOrder}
 use Rattle.edge_order.proofs.PlaceLaws.{getD-within}
 use Rattle.edge_order.proofs.OrderLaws.{edge-order-map, map-itself}
 use Rattle.edge.specs.declared.EqualityEdge.{EqualityEdge}
-use Rattle.edge_fold.specs.Edges.{equalityEdge, edgeNullSafe, edgeBetween, edgeOf, edgeBefore, equalityEdges}
+use Rattle.edge_fold.specs.Edges.{equalityEdge, edgeOf, edgeBefore, equalityEdges}
 
--- the edge of the i-th of the pairs in three lists
-unfoldable pub edgeAt : EquivalenceClassState → List Bool → List ℕ → List ℕ → List Bool → ℕ → EqualityEdge
+-- the edge of the i-th of the pairs
+unfoldable pub edgeAt : EquivalenceClassState → List Bool → EqualityPairs → ℕ → EqualityEdge
 unfolding edgeOf
-edgeAt classes marks lefts rights nullSafes i = edgeOf classes marks (pairAt lefts rights nullSafes i)
+edgeAt classes marks pairs i = edgeOf classes marks (pairAt pairs i)
 
 -- made from the distincts that stand at the columns' roots
-module _ (classes : EquivalenceClassState) (marks : List Bool) (lefts rights : List ℕ) (nullSafes : List Bool) (i : ℕ) where
-  pub edge-made : (edge : EqualityEdge) (d e : Estimate) (left right a b : ℕ) (nullSafe : Bool)
-      → left ≡ getD lefts i 0 → right ≡ getD rights i 0 → nullSafe ≡ getD nullSafes i false
-      → a ≡ getD (classes .roots) left 0 → b ≡ getD (classes .roots) right 0
+module _ (classes : EquivalenceClassState) (marks : List Bool) (pairs : EqualityPairs) (i : ℕ) where
+  pub edge-made : (edge : EqualityEdge) (d e : Estimate) (pair : EqualityPair) (a b : ℕ)
+      → pair ≡ pairAt pairs i
+      → a ≡ getD (classes .roots) (pair .left) 0 → b ≡ getD (classes .roots) (pair .right) 0
       → a < length (classes .distincts) → b < length (classes .distincts)
-      → edge ≡ equalityEdge left right (edgeNullSafe marks left nullSafe) (getD (classes .distincts) a d) (getD (classes .distincts) b e)
-      → edge ≡ edgeAt classes marks lefts rights nullSafes i
-  unfolding edgeAt edgeOf edgeBetween
-  edge-made edge d e left right a b nullSafe l r n at bt ah bh is =
+      → edge ≡ equalityEdge marks pair (getD (classes .distincts) a d) (getD (classes .distincts) b e)
+      → edge ≡ edgeAt classes marks pairs i
+  unfolding edgeAt edgeOf
+  edge-made edge d e pair a b p at bt ah bh is =
       is
-      ∙ (λ k. equalityEdge left right (edgeNullSafe marks left nullSafe) (getD-within (classes .distincts) a d noDistinct ah k) (getD-within (classes .distincts) b e noDistinct bh k))
-      ∙ (λ k. equalityEdge left right (edgeNullSafe marks left nullSafe) (getD (classes .distincts) (at k) noDistinct) (getD (classes .distincts) (bt k) noDistinct))
-      ∙ λ k. equalityEdge (l k) (r k) (edgeNullSafe marks (l k) (n k)) (getD (classes .distincts) (getD (classes .roots) (l k) 0) noDistinct) (getD (classes .distincts) (getD (classes .roots) (r k) 0) noDistinct)
+      ∙ (λ k. equalityEdge marks pair (getD-within (classes .distincts) a d noDistinct ah k) (getD-within (classes .distincts) b e noDistinct bh k))
+      ∙ (λ k. equalityEdge marks pair (getD (classes .distincts) (at k) noDistinct) (getD (classes .distincts) (bt k) noDistinct))
+      ∙ ap (edgeOf classes marks) p
 
 -- what the first n edges are ordered by
 pub record KeysHeld (edge : ℕ → EqualityEdge) (distincts : List Float) (kinds : List Bool) (n : ℕ) : Type 0 where
@@ -79,14 +81,14 @@ module _ (edge : ℕ → EqualityEdge) where
 
 -- ---- sorted numbers are the numbers of the sorted edges
 
-pub edges-in-order : (classes : EquivalenceClassState) (marks : List Bool) (lefts rights : List ℕ) (nullSafes : List Bool) (distincts : List Float) (kinds : List Bool) (n : ℕ) (order : List ℕ)
-    → order ≡ edgeOrder distincts kinds n → KeysHeld (edgeAt classes marks lefts rights nullSafes) distincts kinds n
-    → map (edgeAt classes marks lefts rights nullSafes) order ≡ equalityEdges classes marks (pairsIn lefts rights nullSafes n)
+pub edges-in-order : (classes : EquivalenceClassState) (marks : List Bool) (pairs : EqualityPairs) (distincts : List Float) (kinds : List Bool) (order : List ℕ)
+    → order ≡ edgeOrder distincts kinds (pairs .count) → KeysHeld (edgeAt classes marks pairs) distincts kinds (pairs .count)
+    → map (edgeAt classes marks pairs) order ≡ equalityEdges classes marks (pairsIn pairs)
 unfolding edgeAt numberBefore equalityEdges
-edges-in-order classes marks lefts rights nullSafes distincts kinds n order e held =
+edges-in-order classes marks pairs distincts kinds order e held =
     ap (map edge) e
-    ∙ edge-order-map distincts kinds n edge edgeBefore (λ (i j : ℕ) (h : i < n) (g : j < n). λ k. standsBefore (held .at i h .0 k) (held .at i h .1 k) (held .at j g .0 k) (held .at j g .1 k))
-    ∙ ap (sort edgeBefore) (sym (map-map (edgeOf classes marks) (pairAt lefts rights nullSafes) (tabulate itself n)) ∙ ap (map (edgeOf classes marks)) (map-itself (pairAt lefts rights nullSafes) n))
+    ∙ edge-order-map distincts kinds (pairs .count) edge edgeBefore (λ (i j : ℕ) (h : i < pairs .count) (g : j < pairs .count). λ k. standsBefore (held .at i h .0 k) (held .at i h .1 k) (held .at j g .0 k) (held .at j g .1 k))
+    ∙ ap (sort edgeBefore) (sym (map-map (edgeOf classes marks) (pairAt pairs) (tabulate itself (pairs .count))) ∙ ap (map (edgeOf classes marks)) (map-itself (pairAt pairs) (pairs .count)))
   where
     edge : ℕ → EqualityEdge
-    edge = edgeAt classes marks lefts rights nullSafes
+    edge = edgeAt classes marks pairs

@@ -77,14 +77,15 @@ module _ (sheet : Sheet) where
     module _ (edge : EqualityEdge) (classes classes′ : EquivalenceClassState) (same : Bool) (totals totals′ : EqualityTotals) (out₀ out out′ : List ℕ) (i : ℕ) where
       pub fold-next : classes′ ≡ union classes (edge .left) (edge .right) (edge .«chosen_ndv»)
           → same ≡ equivalent classes (edge .left) (edge .right)
-          → totals′ .figures ≡ edgeFigures sheet (totals .figures) edge same
-          → Appended (totals .coverages) (edgeCoverages sheet edge same) out (totals′ .coverages) out′
+          → totals′ ≡ record { figures = edgeFigures sheet (totals .figures) edge same; coverages = totals .coverages + length (edgeCoverages sheet edge same) }
+          → Appended (totals .coverages) (edgeCoverages sheet edge same) out out′
           → i < length order → edge ≡ edges (getD order i 0) → FoldRest classes totals out₀ out i → FoldRest classes′ totals′ out₀ out′ (i + 1)
       unfolding withEdges withEdge
-      fold-next u t f a h e r =
-          let b = appended-onto (r .coverages) (edgeCoverages sheet edge same) out₀ out out′ (totals .coverages) (totals′ .coverages) (r .bytes) (r .count) a in
+      fold-next u t g a h e r =
+          let f : totals′ .figures ≡ edgeFigures sheet (totals .figures) edge same = ap (λ (x : EqualityTotals). x .figures) g in
+          let n : totals′ .coverages ≡ totals .coverages + length (edgeCoverages sheet edge same) = ap (λ (x : EqualityTotals). x .coverages) g in
+          let b = appended-onto (r .coverages) (edgeCoverages sheet edge same) out₀ out out′ (totals .coverages) (totals′ .coverages) (r .bytes) (r .count) n a in
           let c = covers edge same in
-          let n = a .0 in
           let few = r .few in
           let one : folded classes′ (totals′ .figures) (r .coverages ++ edgeCoverages sheet edge same) ≡ withEdge sheet (folded classes (totals .figures) (r .coverages)) edge
           = (λ k. folded (u k) (f k) (r .coverages ++ edgeCoverages sheet edge same))

@@ -1,5 +1,6 @@
 pub mod SideLaws
 pub mod CoverageLaws
+pub mod CoverageOrder
 pub mod EdgeLaws
 pub mod FoldLaws
 pub mod CountLaws

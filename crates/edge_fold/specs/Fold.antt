@@ -6,7 +6,7 @@ use Rattle.float.specs.Order.{f64Zero, f64One}
 use Rattle.sheet.specs.Sheet.{Sheet}
 use Rattle.class_state.specs.State.{equivalent, union, fromProfiles}
 use Rattle.class_state.specs.declared.EquivalenceClassState.{EquivalenceClassState}
-use Rattle.equality_pairs.specs.Pairs.{EqualityPair}
+use Rattle.equality_pairs.specs.declared.pairs.EqualityPair.{EqualityPair}
 use Rattle.equality_pairs.specs.NonNull.{nonNullMarks}
 use Rattle.edge.specs.Edge.{equalityEdgeEstimate}
 use Rattle.edge.specs.declared.EqualityEdge.{EqualityEdge}

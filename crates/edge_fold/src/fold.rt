@@ -1,17 +1,20 @@
 // What the edges of a join come to.
 ghost use mathlib.Core.Path.{_≡_};
-ghost use Prim.Native.Nat.{_+_, _*_, _≤_};
+ghost use Prim.Native.Nat.{_+_, _*_, _≤_, _<_};
 ghost use lib.ListN.{length};
 ghost use Rattle.sheet.specs.Sheet.{sheetOf};
+ghost use Rattle.layout.specs.Places.{coverageSize, conjunctLimit};
+ghost use Rattle.edge.specs.Places.{edgePlaces};
 ghost use Rattle.edge_fold.specs.Fold.{zeroed, multiplied, withEstimate, coverageOf, coverageUnless, edgeFigures, edgeCoverages};
-ghost use Rattle.edge_fold.specs.Coverages.{coverageSize, Appended};
-use crate::coverages::COVERAGE_SIZE;
+ghost use Rattle.edge_fold.specs.Coverages.{Appended};
 use crate::coverages::put_coverage;
-use crate::sides::connects_inputs;
+use crate::sides::connects_places;
 use edge::EqualityEdge;
 use edge::EqualityEdgeEstimate;
 use edge::LeftCoverage;
 use edge::equality_edge_estimate;
+use edge::places::EdgePlaces;
+use layout::COVERAGE_SIZE;
 use sheet::Sections;
 
 // The products over the edges so far, and whether one of them joined the two inputs.
@@ -66,8 +69,9 @@ fn with_estimate(
 
 // Behind n coverages.
 fn append_coverage(coverage: LeftCoverage, n: usize, out: &mut [u8]) -> usize
-    requires { ⌜ (n ≤ 63) × (coverageSize * (n + 1) ≤ length (now out)) ⌝ }
-    ensures { λ r. ⌜ Appended n (coverageOf coverage) (now (out .entry)) r (now (out .exit)) ⌝ }
+    requires { ⌜ (n < conjunctLimit) × (coverageSize * (n + 1) ≤ length (now out)) ⌝ }
+    ensures { λ r. ⌜ r ≡ n + length (coverageOf coverage) ⌝ }
+    ensures { λ _. ⌜ Appended n (coverageOf coverage) (now (out .entry)) (now (out .exit)) ⌝ }
 {
     match coverage {
         LeftCoverage::Absent => n,
@@ -79,8 +83,9 @@ fn append_coverage(coverage: LeftCoverage, n: usize, out: &mut [u8]) -> usize
 }
 
 fn append_unless(same: bool, estimate: EqualityEdgeEstimate, n: usize, out: &mut [u8]) -> usize
-    requires { ⌜ (n ≤ 63) × (coverageSize * (n + 1) ≤ length (now out)) ⌝ }
-    ensures { λ r. ⌜ Appended n (coverageUnless same estimate) (now (out .entry)) r (now (out .exit)) ⌝ }
+    requires { ⌜ (n < conjunctLimit) × (coverageSize * (n + 1) ≤ length (now out)) ⌝ }
+    ensures { λ r. ⌜ r ≡ n + length (coverageUnless same estimate) ⌝ }
+    ensures { λ _. ⌜ Appended n (coverageUnless same estimate) (now (out .entry)) (now (out .exit)) ⌝ }
 {
     if same {
         return n;
@@ -95,9 +100,9 @@ fn with_edge_estimate(
     same: bool,
     out: &mut [u8],
 ) -> EqualityTotals
-    requires { ⌜ (totals .coverages ≤ 63) × (coverageSize * (totals .coverages + 1) ≤ length (now out)) ⌝ }
+    requires { ⌜ (totals .coverages < conjunctLimit) × (coverageSize * (totals .coverages + 1) ≤ length (now out)) ⌝ }
     ensures { λ r. ⌜ r ≡ record { figures = withEstimate (totals .figures) estimate same; coverages = totals .coverages + length (coverageUnless same estimate) } ⌝ }
-    ensures { λ r. ⌜ Appended (totals .coverages) (coverageUnless same estimate) (now (out .entry)) (r .coverages) (now (out .exit)) ⌝ }
+    ensures { λ _. ⌜ Appended (totals .coverages) (coverageUnless same estimate) (now (out .entry)) (now (out .exit)) ⌝ }
 {
     let figures = with_estimate(totals.figures, estimate, same);
     let coverages = append_unless(same, estimate, totals.coverages, out);
@@ -110,15 +115,16 @@ pub fn edge_totals(
     q: Sections,
     totals: EqualityTotals,
     edge: EqualityEdge,
+    places: EdgePlaces,
     same: bool,
     out: &mut [u8],
 ) -> EqualityTotals
-    requires { ⌜ (totals .coverages ≤ 63) × (coverageSize * (totals .coverages + 1) ≤ length (now out)) ⌝ }
+    requires { ⌜ ((totals .coverages < conjunctLimit) × (coverageSize * (totals .coverages + 1) ≤ length (now out))) × (places ≡ edgePlaces (now s) q (edge .left) (edge .right)) ⌝ }
     ensures { λ r. ⌜ r ≡ record { figures = edgeFigures (sheetOf (now (s .entry)) q) (totals .figures) edge same; coverages = totals .coverages + length (edgeCoverages (sheetOf (now (s .entry)) q) edge same) } ⌝ }
-    ensures { λ r. ⌜ Appended (totals .coverages) (edgeCoverages (sheetOf (now (s .entry)) q) edge same) (now (out .entry)) (r .coverages) (now (out .exit)) ⌝ }
+    ensures { λ _. ⌜ Appended (totals .coverages) (edgeCoverages (sheetOf (now (s .entry)) q) edge same) (now (out .entry)) (now (out .exit)) ⌝ }
 {
-    if connects_inputs(s, q, edge.left, edge.right) {
-        let estimate = equality_edge_estimate(s, q, edge);
+    if connects_places(places) {
+        let estimate = equality_edge_estimate(s, q, edge, places);
         return with_edge_estimate(totals, estimate, same, out);
     }
     totals

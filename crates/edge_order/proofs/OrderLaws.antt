@@ -7,6 +7,7 @@ use native.Mathlib.Omega.{arith}
 use lib.ListN.{length, take, drop}
 use lib.Seq.{take-all, take-append-le, take-take, drop-at, length-take-le}
 use lib.Ieee.{Float, lt, eq}
+use Rattle.layout.specs.Places.{conjunctLimit}
 use Rattle.records.specs.Lists.{tabulateFrom, tabulate, itself}
 use Rattle.records.proofs.ListLaws.{tabulate-in, tabulate-step, tabulate-end}
 use Rattle.edge_order.specs.Sort.{insert, sort}
@@ -28,7 +29,7 @@ module _ (distinct other : Float) (nullSafe otherNullSafe : Bool) where
   unfolding standsBefore
   stands-not h e = rw (h, e) refl
 
--- ---- where a loop has sorted the numbers from k up to n, into the last places of 64
+-- ---- where a loop has sorted the numbers from k up to n, into the last places
 
 module _ (before : ℕ → ℕ → Bool) (n : ℕ) where
   abbrev pub sortedFrom : ℕ → List ℕ
@@ -36,43 +37,43 @@ module _ (before : ℕ → ℕ → Bool) (n : ℕ) where
 
   -- the places in front of them are as they were
   abbrev pub orderedFrom : List ℕ → ℕ → List ℕ
-  orderedFrom order k = take (64 - n + k) order ++ sortedFrom k
+  orderedFrom order k = take (conjunctLimit - n + k) order ++ sortedFrom k
 
-  pub order-first : (order : List ℕ) → length order ≡ 64 → n ≤ 64 → order ≡ orderedFrom order n
+  pub order-first : (order : List ℕ) → length order ≡ conjunctLimit → n ≤ conjunctLimit → order ≡ orderedFrom order n
   unfolding sort
   order-first order h k =
       sym (append-nil order)
-      ∙ ap (λ (l : List ℕ). l ++ []) (sym (take-all (64 - n + n) order (omega arith)))
-      ∙ ap (λ (l : List ℕ). take (64 - n + n) order ++ sort before l) (sym (tabulate-end itself n n (omega arith)))
+      ∙ ap (λ (l : List ℕ). l ++ []) (sym (take-all (conjunctLimit - n + n) order (omega arith)))
+      ∙ ap (λ (l : List ℕ). take (conjunctLimit - n + n) order ++ sort before l) (sym (tabulate-end itself n n (omega arith)))
 
   -- one more number in front
-  pub order-next : (k : ℕ) (order next start : List ℕ) → length start ≡ 64 → n ≤ 64 → 1 ≤ k → k ≤ n → order ≡ orderedFrom start k
-      → next ≡ take (64 - n + (k - 1)) order ++ insert before (k - 1) (drop (64 - n + (k - 1) + 1) order)
+  pub order-next : (k : ℕ) (order next start : List ℕ) → length start ≡ conjunctLimit → n ≤ conjunctLimit → 1 ≤ k → k ≤ n → order ≡ orderedFrom start k
+      → next ≡ take (conjunctLimit - n + (k - 1)) order ++ insert before (k - 1) (drop (conjunctLimit - n + (k - 1) + 1) order)
       → next ≡ orderedFrom start (k - 1)
   unfolding sort
   order-next k order next start s m h l f g =
       g
-      ∙ ap (λ (r : List ℕ). r ++ insert before (k - 1) (drop (64 - n + (k - 1) + 1) order)) front
-      ∙ ap (λ (r : List ℕ). take (64 - n + (k - 1)) start ++ r)
-      (ap (insert before (k - 1)) (go (64 - n + (k - 1) + 1) (k - 1 + 1) (omega arith) (omega arith))
+      ∙ ap (λ (r : List ℕ). r ++ insert before (k - 1) (drop (conjunctLimit - n + (k - 1) + 1) order)) front
+      ∙ ap (λ (r : List ℕ). take (conjunctLimit - n + (k - 1)) start ++ r)
+      (ap (insert before (k - 1)) (go (conjunctLimit - n + (k - 1) + 1) (k - 1 + 1) (omega arith) (omega arith))
       ∙ ap (sort before) (sym (tabulate-step itself (k - 1) n (omega arith))))
     where
-      held : length (take (64 - n + k) start) ≡ 64 - n + k
-      held = length-take-le (64 - n + k) start (omega arith)
+      held : length (take (conjunctLimit - n + k) start) ≡ conjunctLimit - n + k
+      held = length-take-le (conjunctLimit - n + k) start (omega arith)
 
-      front : take (64 - n + (k - 1)) order ≡ take (64 - n + (k - 1)) start
+      front : take (conjunctLimit - n + (k - 1)) order ≡ take (conjunctLimit - n + (k - 1)) start
       front =
-          ap (take (64 - n + (k - 1))) f
-          ∙ take-append-le (64 - n + (k - 1)) (take (64 - n + k) start) (sortedFrom k) (let e = held in omega arith)
-          ∙ take-take (64 - n + (k - 1)) (64 - n + k) start (omega arith)
+          ap (take (conjunctLimit - n + (k - 1))) f
+          ∙ take-append-le (conjunctLimit - n + (k - 1)) (take (conjunctLimit - n + k) start) (sortedFrom k) (let e = held in omega arith)
+          ∙ take-take (conjunctLimit - n + (k - 1)) (conjunctLimit - n + k) start (omega arith)
 
-      go : (a b : ℕ) → a ≡ 64 - n + k → b ≡ k → drop a order ≡ sortedFrom b
-      go a b p q = rw (p, q) (ap (drop (64 - n + k)) f ∙ drop-at (take (64 - n + k) start) (sortedFrom k) (64 - n + k) held)
+      go : (a b : ℕ) → a ≡ conjunctLimit - n + k → b ≡ k → drop a order ≡ sortedFrom b
+      go a b p q = rw (p, q) (ap (drop (conjunctLimit - n + k)) f ∙ drop-at (take (conjunctLimit - n + k) start) (sortedFrom k) (conjunctLimit - n + k) held)
 
-  pub order-all : (k : ℕ) (order start : List ℕ) → k ≤ 0 → order ≡ orderedFrom start k → order ≡ take (64 - n) start ++ sort before (tabulate itself n)
-  order-all k order start h f = go (64 - n + k) (n - k) k (omega arith) (omega arith) (omega arith) f
+  pub order-all : (k : ℕ) (order start : List ℕ) → k ≤ 0 → order ≡ orderedFrom start k → order ≡ take (conjunctLimit - n) start ++ sort before (tabulate itself n)
+  order-all k order start h f = go (conjunctLimit - n + k) (n - k) k (omega arith) (omega arith) (omega arith) f
     where
-      go : (a b c : ℕ) → a ≡ 64 - n → b ≡ n → c ≡ 0 → order ≡ take a start ++ sort before (tabulateFrom itself c b) → order ≡ take (64 - n) start ++ sort before (tabulate itself n)
+      go : (a b c : ℕ) → a ≡ conjunctLimit - n → b ≡ n → c ≡ 0 → order ≡ take a start ++ sort before (tabulateFrom itself c b) → order ≡ take (conjunctLimit - n) start ++ sort before (tabulate itself n)
       go a b c p q r f = rw (p, q, r) at f
 
 -- ---- what stands in it

@@ -5,8 +5,10 @@ ghost use mathlib.Core.List.{_++_};
 ghost use Prim.Native.Nat.{_+_, _-_, _<_, _≤_};
 ghost use lib.ListN.{length, getD, take, drop};
 ghost use Rattle.float.specs.Order.{f64Zero};
+ghost use Rattle.layout.specs.Places.{conjunctLimit};
 ghost use Rattle.edge_order.specs.Sort.{insert};
 ghost use Rattle.edge_order.specs.Order.{standsBefore, numberBefore, edgeOrder};
+use layout::CONJUNCT_LIMIT;
 
 fn distinct_of(distincts: &[f64], i: u8) -> f64
     ensures { λ r. ⌜ r ≡ getD (now (distincts .entry)) i f64Zero ⌝ }
@@ -61,13 +63,16 @@ fn number_before(distincts: &[f64], null_safes: &[bool], i: u8, j: u8) -> bool
     )
 }
 
+// The last place of an order.
+const LAST: usize = CONJUNCT_LIMIT - 1;
+
 // x goes into the sorted rest behind `at`; those that stand before it move one place to the front.
 fn place(distincts: &[f64], null_safes: &[bool], order: &mut [u8], at: usize, x: u8)
-    requires { ⌜ (at < 64) × (length (now order) ≡ 64) ⌝ }
+    requires { ⌜ (at < conjunctLimit) × (length (now order) ≡ conjunctLimit) ⌝ }
     ensures { λ _. ⌜ now (order .exit) ≡ take at (now (order .entry)) ++ insert (numberBefore (now (distincts .entry)) (now («null_safes» .entry))) x (drop (at + 1) (now (order .entry))) ⌝ }
 {
     let mut j = at;
-    while j < 63 {
+    while j < LAST {
         let y = order[j + 1];
         if !number_before(distincts, null_safes, y, x) {
             order[j] = x;
@@ -81,12 +86,18 @@ fn place(distincts: &[f64], null_safes: &[bool], order: &mut [u8], at: usize, x:
 
 // The numbers of n edges in their order, in the last n places.
 pub fn edge_order(distincts: &[f64], null_safes: &[bool], n: usize, order: &mut [u8])
-    requires { ⌜ (n ≤ 64) × (length (now order) ≡ 64) ⌝ }
-    ensures { λ _. ⌜ now (order .exit) ≡ take (64 - n) (now (order .entry)) ++ edgeOrder (now (distincts .entry)) (now («null_safes» .entry)) n ⌝ }
+    requires { ⌜ (n ≤ conjunctLimit) × (length (now order) ≡ conjunctLimit) ⌝ }
+    ensures { λ _. ⌜ now (order .exit) ≡ take (conjunctLimit - n) (now (order .entry)) ++ edgeOrder (now (distincts .entry)) (now («null_safes» .entry)) n ⌝ }
 {
     let mut k = n;
     while k > 0 {
         k -= 1;
-        place(distincts, null_safes, order, 64 - n + k, k as u8);
+        place(
+            distincts,
+            null_safes,
+            order,
+            CONJUNCT_LIMIT - n + k,
+            k as u8,
+        );
     }
 }

@@ -7,11 +7,13 @@ use mathlib.Core.List.{List, [], _∷_, List·Memᴰ, List·Memᴰ·head, List·
 use native.Mathlib.Omega.{arith}
 use borrow.Author.Tests.{eqb-true, eq-eqb, ne-eqb, not-false}
 use lib.Dec.{eqb}
-use lib.ListN.{length, getD, set, length-set}
+use lib.ListN.{length, set, length-set}
 use lib.Seq.{set-getD}
 use Rattle.records.specs.Lists.{tabulateFrom}
 use Rattle.records.proofs.ListLaws.{tabulate-step, tabulate-end}
-use Rattle.equality_pairs.specs.Pairs.{EqualityPair, pairAt, pairsIn}
+use Rattle.equality_pairs.specs.Pairs.{pairAt, pairsIn}
+use Rattle.equality_pairs.specs.declared.pairs.EqualityPair.{EqualityPair}
+use Rattle.equality_pairs.specs.declared.pairs.EqualityPairs.{EqualityPairs}
 use Rattle.equality_pairs.specs.NonNull.{isMarked, withBoth, withOrdinary, extended, extends, pass, passExtends, count, passes}
 
 -- ---- a pair
@@ -52,58 +54,59 @@ module _ (marks : List Bool) (pair : EqualityPair) (x y : Bool) (left : x ≡ is
       one false true e = refl
       one false false e = absurd (true≢false e)
 
--- ---- the pairs of three lists, where a loop stands at the i-th
+-- ---- pairs in places, where a loop stands at the i-th
 
-module _ (lefts rights : List ℕ) (nullSafes : List Bool) where
-  abbrev pub restFrom : ℕ → ℕ → List EqualityPair
-  restFrom i n = tabulateFrom (pairAt lefts rights nullSafes) i (n - i)
+module _ (pairs : EqualityPairs) where
+  abbrev pub restFrom : ℕ → List EqualityPair
+  restFrom i = tabulateFrom (pairAt pairs) i (pairs .count - i)
 
-  pub rest-first : (n : ℕ) → restFrom 0 n ≡ pairsIn lefts rights nullSafes n
-  rest-first n = ap (tabulateFrom (pairAt lefts rights nullSafes) 0) (all n)
+  pub rest-first : restFrom 0 ≡ pairsIn pairs
+  rest-first = ap (tabulateFrom (pairAt pairs) 0) (all (pairs .count))
     where
       all : (n : ℕ) → n - 0 ≡ n
       all n = omega arith
 
-  pub ordinary-next : (marks out : List Bool) (i n : ℕ) → i < n → out ≡ cond (getD nullSafes i false) marks (withBoth marks (pairAt lefts rights nullSafes i))
-      → withOrdinary out (restFrom (i + 1) n) ≡ withOrdinary marks (restFrom i n)
-  unfolding withOrdinary
-  ordinary-next marks out i n h e = ap (λ (m : List Bool). withOrdinary m (restFrom (i + 1) n)) e ∙ ap (withOrdinary marks) (sym (tabulate-step (pairAt lefts rights nullSafes) i n h))
+  module _ (marks : List Bool) (i : ℕ) where
+    pub ordinary-end : pairs .count ≤ i → marks ≡ withOrdinary marks (restFrom i)
+    unfolding withOrdinary
+    ordinary-end h = ap (withOrdinary marks) (sym (tabulate-end (pairAt pairs) i (pairs .count) h))
 
-  pub ordinary-end : (marks : List Bool) (i n : ℕ) → n ≤ i → marks ≡ withOrdinary marks (restFrom i n)
-  unfolding withOrdinary
-  ordinary-end marks i n h = ap (withOrdinary marks) (sym (tabulate-end (pairAt lefts rights nullSafes) i n h))
+    pub pass-end : pairs .count ≤ i → marks ≡ pass marks (restFrom i)
+    unfolding pass
+    pass-end h = ap (pass marks) (sym (tabulate-end (pairAt pairs) i (pairs .count) h))
 
-  pub pass-next : (marks out : List Bool) (i n : ℕ) → i < n → out ≡ extended marks (pairAt lefts rights nullSafes i) → pass out (restFrom (i + 1) n) ≡ pass marks (restFrom i n)
-  unfolding pass
-  pass-next marks out i n h e = ap (λ (m : List Bool). pass m (restFrom (i + 1) n)) e ∙ ap (pass marks) (sym (tabulate-step (pairAt lefts rights nullSafes) i n h))
+    pub extends-end : (changed : Bool) → pairs .count ≤ i → changed ≡ (passExtends marks (restFrom i) || changed)
+    unfolding passExtends
+    extends-end changed h = ap (λ (l : List EqualityPair). passExtends marks l || changed) (sym (tabulate-end (pairAt pairs) i (pairs .count) h))
 
-  pub pass-end : (marks : List Bool) (i n : ℕ) → n ≤ i → marks ≡ pass marks (restFrom i n)
-  unfolding pass
-  pass-end marks i n h = ap (pass marks) (sym (tabulate-end (pairAt lefts rights nullSafes) i n h))
+    module _ (pair : EqualityPair) (out : List Bool) (h : i < pairs .count) (is : pair ≡ pairAt pairs i) where
+      next : pair ∷ restFrom (i + 1) ≡ restFrom i
+      next = ap (λ (p : EqualityPair). p ∷ restFrom (i + 1)) is ∙ sym (tabulate-step (pairAt pairs) i (pairs .count) h)
 
-  -- what the pairs from the i-th on extend, or those before it did
-  pub extends-next : (marks out : List Bool) (changed changed′ : Bool) (i n : ℕ) → i < n → out ≡ extended marks (pairAt lefts rights nullSafes i) → changed′ ≡ (extends marks (pairAt lefts rights nullSafes i) || changed)
-      → (passExtends out (restFrom (i + 1) n) || changed′) ≡ (passExtends marks (restFrom i n) || changed)
-  unfolding passExtends
-  extends-next marks out changed changed′ i n h e f =
-      (λ k. passExtends (e k) (restFrom (i + 1) n) || f k)
-      ∙ turned (extends marks pair) (passExtends (extended marks pair) (restFrom (i + 1) n)) changed
-      ∙ ap (λ (l : List EqualityPair). passExtends marks l || changed) (sym (tabulate-step (pairAt lefts rights nullSafes) i n h))
-    where
-      pair : EqualityPair
-      pair = pairAt lefts rights nullSafes i
+      pub ordinary-next : out ≡ cond (pair .«null_safe») marks (withBoth marks pair) → withOrdinary out (restFrom (i + 1)) ≡ withOrdinary marks (restFrom i)
+      unfolding withOrdinary
+      ordinary-next e = ap (λ (m : List Bool). withOrdinary m (restFrom (i + 1))) e ∙ ap (withOrdinary marks) next
 
-      turned : (a b c : Bool) → (b || (a || c)) ≡ ((a || b) || c)
-      turned true true c = refl
-      turned true false c = refl
-      turned false b c = refl
+      pub pass-next : out ≡ extended marks pair → pass out (restFrom (i + 1)) ≡ pass marks (restFrom i)
+      unfolding pass
+      pass-next e = ap (λ (m : List Bool). pass m (restFrom (i + 1))) e ∙ ap (pass marks) next
 
-  pub extends-end : (marks : List Bool) (changed : Bool) (i n : ℕ) → n ≤ i → changed ≡ (passExtends marks (restFrom i n) || changed)
-  unfolding passExtends
-  extends-end marks changed i n h = ap (λ (l : List EqualityPair). passExtends marks l || changed) (sym (tabulate-end (pairAt lefts rights nullSafes) i n h))
+      -- what the pairs from the i-th on extend, or those before it did
+      pub extends-next : (changed changed′ : Bool) → out ≡ extended marks pair → changed′ ≡ (extends marks pair || changed)
+          → (passExtends out (restFrom (i + 1)) || changed′) ≡ (passExtends marks (restFrom i) || changed)
+      unfolding passExtends
+      extends-next changed changed′ e f =
+          (λ k. passExtends (e k) (restFrom (i + 1)) || f k)
+          ∙ turned (extends marks pair) (passExtends (extended marks pair) (restFrom (i + 1))) changed
+          ∙ ap (λ (l : List EqualityPair). passExtends marks l || changed) next
+        where
+          turned : (a b c : Bool) → (b || (a || c)) ≡ ((a || b) || c)
+          turned true true c = refl
+          turned true false c = refl
+          turned false b c = refl
 
-  pub extends-all : (marks : List Bool) (n : ℕ) → (passExtends marks (restFrom 0 n) || false) ≡ passExtends marks (pairsIn lefts rights nullSafes n)
-  extends-all marks n = or-false (passExtends marks (restFrom 0 n)) ∙ ap (passExtends marks) (rest-first n)
+  pub extends-all : (marks : List Bool) → (passExtends marks (restFrom 0) || false) ≡ passExtends marks (pairsIn pairs)
+  extends-all marks = or-false (passExtends marks (restFrom 0)) ∙ ap (passExtends marks) rest-first
     where
       or-false : (b : Bool) → (b || false) ≡ b
       or-false true = refl

@@ -1,21 +1,23 @@
 -- Laws of the pairs that conjuncts give: how many there are, where they stand, and what a loop that stands at the i-th conjunct has stored. Assumes nothing.
-use Prim.Native.Nat.{ℕ, suc, _+_, _≤_, _<_}
-use mathlib.Core.Path.{_≡_, refl, sym, ap, subst, _∙_}
-use mathlib.Core.Bool.{Bool, false}
-use mathlib.Core.List.{List, [], _∷_, _++_, map, append-assoc, map-append}
+use Prim.Native.Nat.{ℕ, zero, suc, _+_, _-_, _≤_, _<_}
+use mathlib.Core.Path.{_≡_, refl, sym, ap, _∙_}
+use mathlib.Core.Bool.{Bool}
+use mathlib.Core.List.{List, [], _∷_, _++_, append-assoc}
 use native.Mathlib.Omega.{arith}
 use native.Mathlib.Nat.{add-zero}
 use native.Mathlib.Numerals.{add-one}
-use lib.ListN.{length, getD, set, drop, length-append, length-map, drop-of-length-le}
-use lib.Seq.{drop-cons, getD-at, sets, sets-eq}
+use lib.ListN.{length, getD, set, drop, replicate, length-append, length-replicate, drop-of-length-le}
+use lib.Seq.{drop-cons, getD-at, set-getD, getD-set-other, sets, sets-eq}
 use Rattle.records.specs.Lists.{tabulateFrom}
-use Rattle.records.specs.declared.expressions.Expression.{Expression}
+use Rattle.layout.specs.Places.{conjunctLimit}
 use Rattle.sheet.specs.Sheet.{Sheet}
 use Rattle.lookup.specs.Lookup.{expressionOf}
 use Rattle.parts.specs.Parts.{columnEquality}
 use Rattle.parts.specs.declared.equalities.ColumnEquality.{ColumnEquality}
 use Rattle.parts.specs.declared.equalities.ColumnEquality.the-variants.{Absent, Present}
-use Rattle.equality_pairs.specs.Pairs.{EqualityPair, leftOf, rightOf, kindOf, nullSafeIn, pairOf, equalityPair, equalityPairs, pairAt, pairsIn}
+use Rattle.equality_pairs.specs.Pairs.{nullSafeIn, pairOf, equalityPair, equalityPairs, noPair, pairOrNone, pairCount, pairsOf, pairAt, pairsIn}
+use Rattle.equality_pairs.specs.declared.pairs.EqualityPair.{EqualityPair}
+use Rattle.equality_pairs.specs.declared.pairs.EqualityPairs.{EqualityPairs}
 
 -- ---- how many there are
 
@@ -45,49 +47,93 @@ sets-append l n (x ∷ xs) ys = sets-append (set l n x) (suc n) xs ys ∙ ap (λ
     over : (n m : ℕ) → suc n + m ≡ n + suc m
     over n m = omega arith
 
--- pairs that stand at the front of three lists are those that are read there
-module _ (x y : List ℕ) (z : List Bool) where
-  pairs-from : (pairs done : List EqualityPair) → tabulateFrom (pairAt (map leftOf done ++ (map leftOf pairs ++ x)) (map rightOf done ++ (map rightOf pairs ++ y)) (map kindOf done ++ (map kindOf pairs ++ z))) (length done) (length pairs) ≡ pairs
-  unfolding tabulateFrom
-  pairs-from [] done = refl
-  pairs-from (pair ∷ pairs) done = λ k. record {
-    left = at leftOf x 0 k;
-    right = at rightOf y 0 k;
-    nullSafe = at kindOf z false k;
-  } ∷ ((λ j. tabulateFrom (pairAt (moved leftOf x j) (moved rightOf y j) (moved kindOf z j)) (place j) (length pairs)) ∙ pairs-from pairs (done ++ pair ∷ [])) k
+-- ---- the places
+
+-- within a list, what stands for a missing element does not matter
+getD-within {ℓ} : {A : Type ℓ} (l : List A) (i : ℕ) (d e : A) → i < length l → getD l i d ≡ getD l i e
+getD-within [] i d e h = absurd (none i h)
+  where
+    none : (i : ℕ) → i < 0 → ⊥
+    none i h = omega arith
+getD-within (x ∷ l) zero d e h = refl
+getD-within (x ∷ l) (suc i) d e h = getD-within l i d e (less i (length l) h)
+  where
+    less : (i n : ℕ) → suc i < suc n → i < n
+    less i n h = omega arith
+
+pub pair-read : (pairs : EqualityPairs) (held : List EqualityPair) (i : ℕ) (d : EqualityPair) → held ≡ pairs .pairs → i < length held → getD held i d ≡ pairAt pairs i
+pair-read pairs held i d e h = getD-within held i d noPair h ∙ ap (λ (l : List EqualityPair). getD l i noPair) e
+
+-- pairs that stand in the first places are those that are read there
+pairs-from : (pairs done behind : List EqualityPair) (n : ℕ) → tabulateFrom (pairAt (record { pairs = done ++ (pairs ++ behind); count = n })) (length done) (length pairs) ≡ pairs
+unfolding tabulateFrom
+pairs-from [] done behind n = refl
+pairs-from (pair ∷ pairs) done behind n = λ k. getD-at done pair (pairs ++ behind) noPair (length done) refl k ∷ ((λ j. tabulateFrom (pairAt (record { pairs = over j; count = n })) (place j) (length pairs)) ∙ pairs-from pairs (done ++ pair ∷ []) behind n) k
+  where
+    over : done ++ (pair ∷ (pairs ++ behind)) ≡ (done ++ pair ∷ []) ++ (pairs ++ behind)
+    over = sym (append-assoc done (pair ∷ []) (pairs ++ behind))
+
+    place : length done + 1 ≡ length (done ++ pair ∷ [])
+    place = sym (length-append done (pair ∷ []))
+
+pub pairs-held : (pairs : List EqualityPair) → pairsIn (pairsOf pairs) ≡ pairs
+pairs-held pairs = pairs-from pairs [] (replicate (conjunctLimit - length pairs) noPair) (length pairs)
+
+-- ---- one conjunct
+
+getD-blank {ℓ} : {A : Type ℓ} (n k : ℕ) (a : A) → getD (replicate n a) k a ≡ a
+getD-blank zero k a = refl
+getD-blank (suc n) zero a = refl
+getD-blank (suc n) (suc k) a = getD-blank n k a
+
+drop-replicate {ℓ} : {A : Type ℓ} (k n : ℕ) (a : A) → drop k (replicate n a) ≡ replicate (n - k) a
+drop-replicate zero n a = ap (λ (m : ℕ). replicate m a) (none n)
+  where
+    none : (n : ℕ) → n ≡ n - 0
+    none n = omega arith
+drop-replicate (suc k) zero a = ap (λ (m : ℕ). replicate m a) (none k)
+  where
+    none : (k : ℕ) → 0 ≡ 0 - suc k
+    none k = omega arith
+drop-replicate (suc k) (suc n) a = drop-replicate k n a ∙ ap (λ (m : ℕ). replicate m a) (less n k)
+  where
+    less : (n k : ℕ) → n - k ≡ suc n - suc k
+    less n k = omega arith
+
+-- from the n-th place on there is no pair
+abbrev pub Blank : List EqualityPair → ℕ → Type 0
+Blank l n = (k : ℕ) → n ≤ k → getD l k noPair ≡ noPair
+
+pub blank-first : Blank (replicate conjunctLimit noPair) 0
+blank-first k h = getD-blank conjunctLimit k noPair
+
+module _ (sheet : Sheet) (e : ℕ) (equality : ColumnEquality) (is : equality ≡ columnEquality sheet e) where
+  pub count-one : pairCount equality ≡ length (equalityPair sheet e)
+  unfolding equalityPair
+  count-one = go (nullSafeIn (expressionOf sheet e)) equality ∙ ap (λ (x : ColumnEquality). length (pairOf (nullSafeIn (expressionOf sheet e)) x)) is
     where
-      at : {A : Type 0} (f : EqualityPair → A) (behind : List A) (d : A) → getD (map f done ++ (f pair ∷ (map f pairs ++ behind))) (length done) d ≡ f pair
-      at f behind d = getD-at (map f done) (f pair) (map f pairs ++ behind) d (length done) (length-map done f)
+      go : (nullSafe : Bool) (x : ColumnEquality) → pairCount x ≡ length (pairOf nullSafe x)
+      go nullSafe Absent = refl
+      go nullSafe (Present left right) = refl
 
-      moved : {A : Type 0} (f : EqualityPair → A) (behind : List A) → map f done ++ (f pair ∷ (map f pairs ++ behind)) ≡ map f (done ++ pair ∷ []) ++ (map f pairs ++ behind)
-      moved {A} f behind = sym (append-assoc (map f done) (f pair ∷ []) (map f pairs ++ behind)) ∙ ap (λ (l : List A). l ++ (map f pairs ++ behind)) (sym (map-append f done (pair ∷ [])))
-
-      place : length done + 1 ≡ length (done ++ pair ∷ [])
-      place = sym (length-append done (pair ∷ []))
-
-pub pairs-held : (pairs : List EqualityPair) (n : ℕ) (lefts rights : List ℕ) (nullSafes : List Bool) (x y : List ℕ) (z : List Bool) → n ≡ length pairs → lefts ≡ map leftOf pairs ++ x → rights ≡ map rightOf pairs ++ y → nullSafes ≡ map kindOf pairs ++ z
-    → pairsIn lefts rights nullSafes n ≡ pairs
-pairs-held pairs n lefts rights nullSafes x y z m l r s = (λ k. pairsIn (l k) (r k) (s k) (m k)) ∙ pairs-from x y z pairs []
-
--- ---- one more of them
-
--- what a store of `pairs` from place n on leaves of the three lists, and the count
-abbrev pub Put : List EqualityPair → List ℕ → List ℕ → List Bool → ℕ → ℕ → List ℕ → List ℕ → List Bool → Type 0
-Put pairs lefts rights nullSafes n m lefts′ rights′ nullSafes′ = (m ≡ n + length pairs) × ((lefts′ ≡ sets lefts n (map leftOf pairs)) × ((rights′ ≡ sets rights n (map rightOf pairs)) × (nullSafes′ ≡ sets nullSafes n (map kindOf pairs))))
-
-module _ (sheet : Sheet) (e : ℕ) (lefts rights : List ℕ) (nullSafes : List Bool) (n : ℕ) (equality : ColumnEquality) (is : equality ≡ columnEquality sheet e) where
-  pub absent-put : equality ≡ Absent → Put (equalityPair sheet e) lefts rights nullSafes n n lefts rights nullSafes
+  -- a place that holds no pair
+  pub put-one : (l : List EqualityPair) (n : ℕ) → getD l n noPair ≡ noPair → set l n (pairOrNone (nullSafeIn (expressionOf sheet e)) equality) ≡ sets l n (equalityPair sheet e)
   unfolding equalityPair
-  absent-put h =
-      let none : equalityPair sheet e ≡ [] = ap (pairOf (nullSafeIn (expressionOf sheet e))) (sym is ∙ h) in
-      subst (λ (pairs : List EqualityPair). Put pairs lefts rights nullSafes n n lefts rights nullSafes) (sym none) (sym (add-zero n), (refl, (refl, refl)))
+  put-one l n blank = go (nullSafeIn (expressionOf sheet e)) equality ∙ ap (λ (x : ColumnEquality). sets l n (pairOf (nullSafeIn (expressionOf sheet e)) x)) is
+    where
+      go : (nullSafe : Bool) (x : ColumnEquality) → set l n (pairOrNone nullSafe x) ≡ sets l n (pairOf nullSafe x)
+      go nullSafe Absent = ap (set l n) (sym blank) ∙ set-getD l n noPair
+      go nullSafe (Present left right) = refl
 
-  pub present-put : (left right : ℕ) (x : Expression) (nullSafe : Bool) → equality ≡ Present left right → x ≡ expressionOf sheet e → nullSafe ≡ nullSafeIn x
-      → Put (equalityPair sheet e) lefts rights nullSafes n (n + 1) (set lefts n left) (set rights n right) (set nullSafes n nullSafe)
-  unfolding equalityPair
-  present-put left right x nullSafe h of kind =
-      let one : record { left = left; right = right; nullSafe = nullSafe } ∷ [] ≡ equalityPair sheet e = (λ i. record { left = left; right = right; nullSafe = (kind ∙ ap nullSafeIn of) i } ∷ []) ∙ ap (pairOf (nullSafeIn (expressionOf sheet e))) (sym h ∙ is) in
-      subst (λ (pairs : List EqualityPair). Put pairs lefts rights nullSafes n (n + 1) (set lefts n left) (set rights n right) (set nullSafes n nullSafe)) one (refl, (refl, (refl, refl)))
+  pub blank-next : (l next : List EqualityPair) (n m : ℕ) → m ≡ n + pairCount equality → next ≡ set l n (pairOrNone (nullSafeIn (expressionOf sheet e)) equality) → Blank l n → Blank next m
+  blank-next l next n m c s blank k h = go (nullSafeIn (expressionOf sheet e)) equality c s
+    where
+      apart : (n k m : ℕ) → m ≡ n + 1 → m ≤ k → k ≡ n → ⊥
+      apart n k m c h e = omega arith
+
+      go : (nullSafe : Bool) (x : ColumnEquality) → m ≡ n + pairCount x → next ≡ set l n (pairOrNone nullSafe x) → getD next k noPair ≡ noPair
+      go nullSafe Absent c s = ap (λ (o : List EqualityPair). getD o k noPair) (s ∙ ap (set l n) (sym (blank n (omega arith))) ∙ set-getD l n noPair) ∙ blank k (omega arith)
+      go nullSafe (Present left right) c s = ap (λ (o : List EqualityPair). getD o k noPair) s ∙ getD-set-other l n k _ noPair (apart n k m c h) ∙ blank k (omega arith)
 
 -- ---- the loop over the conjuncts
 
@@ -110,34 +156,29 @@ module _ (sheet : Sheet) (es : List ℕ) where
   pub count-all : (n i : ℕ) → length es ≤ i → n + length (equalityPairs sheet (drop i es)) ≡ length (equalityPairs sheet es) → n ≡ length (equalityPairs sheet es)
   count-all n i h rest = let a = ap length (pairs-over i h) in omega arith
 
-  module _ {A : Type 0} (f : EqualityPair → A) where
-    -- a field of the pairs: what is stored, and then what is left to store
-    abbrev pub StoredRest : List A → List A → ℕ → ℕ → Type 0
-    StoredRest start l n i = sets l n (map f (equalityPairs sheet (drop i es))) ≡ sets start 0 (map f (equalityPairs sheet es))
+  -- what is stored, and then what is left to store
+  abbrev pub StoredRest : List EqualityPair → List EqualityPair → ℕ → ℕ → Type 0
+  StoredRest start l n i = sets l n (equalityPairs sheet (drop i es)) ≡ sets start 0 (equalityPairs sheet es)
 
-    pub stored-next : (start l next : List A) (n m i : ℕ) → i < length es → m ≡ n + length (equalityPair sheet (getD es i 0)) → next ≡ sets l n (map f (equalityPair sheet (getD es i 0))) → StoredRest start l n i → StoredRest start next m (i + 1)
-    stored-next start l next n m i h e is rest =
-        (λ k. sets (is k) (e k) (map f left))
-        ∙ ap (λ (c : ℕ). sets (sets l n (map f one)) (n + c) (map f left)) (sym (length-map one f))
-        ∙ sym (sets-append l n (map f one) (map f left))
-        ∙ ap (sets l n) (sym (map-append f one left) ∙ ap (map f) (sym (pairs-step i h)))
-        ∙ rest
-      where
-        one : List EqualityPair
-        one = equalityPair sheet (getD es i 0)
+  pub stored-next : (start l next : List EqualityPair) (n m i : ℕ) → i < length es → m ≡ n + length (equalityPair sheet (getD es i 0)) → next ≡ sets l n (equalityPair sheet (getD es i 0)) → StoredRest start l n i → StoredRest start next m (i + 1)
+  stored-next start l next n m i h e is rest =
+      (λ k. sets (is k) (e k) (equalityPairs sheet (drop (i + 1) es)))
+      ∙ sym (sets-append l n (equalityPair sheet (getD es i 0)) (equalityPairs sheet (drop (i + 1) es)))
+      ∙ ap (sets l n) (sym (pairs-step i h))
+      ∙ rest
 
-        left : List EqualityPair
-        left = equalityPairs sheet (drop (i + 1) es)
+  pub stored-all : (l : List EqualityPair) (n i : ℕ) → length es ≤ i → length es ≤ conjunctLimit → n ≡ length (equalityPairs sheet es) → StoredRest (replicate conjunctLimit noPair) l n i → _≡_ {A = EqualityPairs} (record { pairs = l; count = n }) (pairsOf (equalityPairs sheet es))
+  stored-all l n i h room e rest = λ k. record { pairs = held k; count = e k }
+    where
+      fits : (a b c : ℕ) → a ≤ b → b ≤ conjunctLimit → c ≡ conjunctLimit → 0 + a ≤ c
+      fits a b c p q r = omega arith
 
-    pub stored-all : (start l : List A) (n i : ℕ) → length es ≤ i → length es ≤ length start → n ≡ length (equalityPairs sheet es) → StoredRest start l n i → l ≡ map f (equalityPairs sheet es) ++ drop n start
-    stored-all start l n i h room e rest =
-        ap (λ (p : List EqualityPair). sets l n (map f p)) (sym (pairs-over i h))
-        ∙ rest
-        ∙ sets-eq (map f (equalityPairs sheet es)) start 0 (fits _ _ _ _ (length-map (equalityPairs sheet es) f) (pairs-length sheet es) room)
-        ∙ ap (λ (k : ℕ). map f (equalityPairs sheet es) ++ drop k start) (zero-plus _ _ (length-map (equalityPairs sheet es) f ∙ sym e))
-      where
-        fits : (a b c d : ℕ) → a ≡ b → b ≤ c → c ≤ d → 0 + a ≤ d
-        fits a b c d p q r = omega arith
+      from : (n : ℕ) → 0 + n ≡ n
+      from n = omega arith
 
-        zero-plus : (a b : ℕ) → a ≡ b → 0 + a ≡ b
-        zero-plus a b p = omega arith
+      held : l ≡ pairsOf (equalityPairs sheet es) .pairs
+      held =
+          ap (sets l n) (sym (pairs-over i h))
+          ∙ rest
+          ∙ sets-eq (equalityPairs sheet es) (replicate conjunctLimit noPair) 0 (fits _ _ _ (pairs-length sheet es) room (length-replicate conjunctLimit noPair))
+          ∙ ap (λ (b : List EqualityPair). equalityPairs sheet es ++ b) (ap (λ (k : ℕ). drop k (replicate conjunctLimit noPair)) (from (length (equalityPairs sheet es))) ∙ drop-replicate (length (equalityPairs sheet es)) conjunctLimit noPair)

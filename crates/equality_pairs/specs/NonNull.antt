@@ -6,7 +6,8 @@ use lib.Dec.{eqb}
 use lib.ListN.{getD, set, replicate}
 use Rattle.float.specs.Integers.{bit}
 use Rattle.selection.specs.Selected.{selected}
-use Rattle.equality_pairs.specs.Pairs.{EqualityPair}
+use Rattle.layout.specs.Places.{columnLimit}
+use Rattle.equality_pairs.specs.declared.pairs.EqualityPair.{EqualityPair}
 
 abbrev pub isMarked : List Bool → ℕ → Bool
 isMarked marks column = getD marks column false
@@ -19,7 +20,7 @@ withBoth marks pair = set (set marks (pair .left) true) (pair .right) true
 unfoldable pub withOrdinary : List Bool → List EqualityPair → List Bool
 unfolding withBoth
 withOrdinary marks [] = marks
-withOrdinary marks (pair ∷ pairs) = withOrdinary (cond (pair .nullSafe) marks (withBoth marks pair)) pairs
+withOrdinary marks (pair ∷ pairs) = withOrdinary (cond (pair .«null_safe») marks (withBoth marks pair)) pairs
 
 abbrev pub extended : List Bool → EqualityPair → List Bool
 extended marks pair = cond (isMarked marks (pair .left) || isMarked marks (pair .right)) (withBoth marks pair) marks
@@ -50,12 +51,12 @@ unfolding pass count
 passes zero marks pairs = marks
 passes (suc n) marks pairs = elim (eqb (count (pass marks pairs)) (count marks)) [ true ↦ pass marks pairs | false ↦ passes n (pass marks pairs) pairs ]
 
--- of 128 columns; 129 passes are enough for the last of them to add none
+-- one pass more than there are columns is enough for the last to add none
 unfoldable pub nonNullMarks : List EqualityPair → List Bool
 unfolding withOrdinary passes
-nonNullMarks pairs = passes 129 (withOrdinary (replicate 128 false) pairs) pairs
+nonNullMarks pairs = passes (columnLimit + 1) (withOrdinary (replicate columnLimit false) pairs) pairs
 
 -- the marked columns, ascending
 unfoldable pub markedColumns : List Bool → List ℕ
 unfolding selected
-markedColumns marks = selected (isMarked marks) 0 128
+markedColumns marks = selected (isMarked marks) 0 columnLimit

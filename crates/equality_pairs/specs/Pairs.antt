@@ -1,8 +1,9 @@
 -- The pairs of columns that conjuncts equate (`equality_pairs` in the source's analysis.rs). Definitions only.
-use Prim.Native.Nat.{ℕ}
+use Prim.Native.Nat.{ℕ, _-_}
 use mathlib.Core.Bool.{Bool, false}
 use mathlib.Core.List.{List, [], _∷_, _++_}
-use lib.ListN.{getD}
+use lib.ListN.{length, getD, replicate}
+use Rattle.layout.specs.Places.{conjunctLimit}
 use Rattle.records.specs.Lists.{tabulate}
 use Rattle.records.specs.declared.expressions.Expression.{Expression}
 use Rattle.records.specs.declared.expressions.Expression.the-variants.{Literal, ColumnRef, Unary, Binary, Nary, Like, Other}
@@ -11,20 +12,8 @@ use Rattle.lookup.specs.Lookup.{expressionOf}
 use Rattle.parts.specs.Parts.{isNullSafe, columnEquality}
 use Rattle.parts.specs.declared.equalities.ColumnEquality.{ColumnEquality}
 use Rattle.parts.specs.declared.equalities.ColumnEquality.the-variants.{Absent, Present}
-
-pub record EqualityPair : Type 0 where
-  pub left : ℕ
-  pub right : ℕ
-  pub nullSafe : Bool
-
-abbrev pub leftOf : EqualityPair → ℕ
-leftOf pair = pair .left
-
-abbrev pub rightOf : EqualityPair → ℕ
-rightOf pair = pair .right
-
-abbrev pub kindOf : EqualityPair → Bool
-kindOf pair = pair .nullSafe
+use Rattle.equality_pairs.specs.declared.pairs.EqualityPair.{EqualityPair}
+use Rattle.equality_pairs.specs.declared.pairs.EqualityPairs.{EqualityPairs}
 
 -- whether the expression is itself one under which two nulls are equal
 abbrev pub nullSafeIn : Expression → Bool
@@ -38,7 +27,7 @@ nullSafeIn Other = false
 
 abbrev pub pairOf : Bool → ColumnEquality → List EqualityPair
 pairOf nullSafe Absent = []
-pairOf nullSafe (Present left right) = record { left = left; right = right; nullSafe = nullSafe } ∷ []
+pairOf nullSafe (Present left right) = record { left = left; right = right; «null_safe» = nullSafe } ∷ []
 
 -- one, or none
 unfoldable pub equalityPair : Sheet → ℕ → List EqualityPair
@@ -51,11 +40,25 @@ unfolding equalityPair
 equalityPairs sheet [] = []
 equalityPairs sheet (e ∷ es) = equalityPair sheet e ++ equalityPairs sheet es
 
--- ---- pairs whose columns and kinds stand in three lists
+-- ---- pairs in so many places as a join may have conjuncts
 
-abbrev pub pairAt : List ℕ → List ℕ → List Bool → ℕ → EqualityPair
-pairAt lefts rights nullSafes i = record { left = getD lefts i 0; right = getD rights i 0; nullSafe = getD nullSafes i false }
+abbrev pub noPair : EqualityPair
+noPair = record { left = 0; right = 0; «null_safe» = false }
 
--- the first n
-abbrev pub pairsIn : List ℕ → List ℕ → List Bool → ℕ → List EqualityPair
-pairsIn lefts rights nullSafes n = tabulate (pairAt lefts rights nullSafes) n
+-- what one conjunct puts into the next place, and how many places it takes
+abbrev pub pairOrNone : Bool → ColumnEquality → EqualityPair
+pairOrNone nullSafe equality = getD (pairOf nullSafe equality) 0 noPair
+
+abbrev pub pairCount : ColumnEquality → ℕ
+pairCount Absent = 0
+pairCount (Present left right) = 1
+
+-- from the first place on; the places behind hold no pair
+abbrev pub pairsOf : List EqualityPair → EqualityPairs
+pairsOf pairs = record { pairs = pairs ++ replicate (conjunctLimit - length pairs) noPair; count = length pairs }
+
+abbrev pub pairAt : EqualityPairs → ℕ → EqualityPair
+pairAt pairs i = getD (pairs .pairs) i noPair
+
+abbrev pub pairsIn : EqualityPairs → List EqualityPair
+pairsIn pairs = tabulate (pairAt pairs) (pairs .count)

@@ -1,18 +1,29 @@
-// The pairs of columns that conjuncts equate, each in the same place of three slices: its left column,
-// its right column and whether its equality is null-safe.
+// The pairs of columns that conjuncts equate.
 ghost use mathlib.Core.Path.{_≡_};
-ghost use mathlib.Core.List.{map};
-ghost use Prim.Native.Nat.{_+_, _<_};
-ghost use lib.ListN.{length};
-ghost use lib.Seq.{sets};
+ghost use lib.ListN.{replicate};
+ghost use Rattle.layout.specs.Places.{conjunctLimit};
 ghost use Rattle.sheet.specs.Sheet.{sheetOf};
-ghost use Rattle.equality_pairs.specs.Pairs.{leftOf, rightOf, kindOf, nullSafeIn, equalityPair};
+ghost use Rattle.lookup.specs.Lookup.{expressionOf};
+ghost use Rattle.equality_pairs.specs.Pairs.{nullSafeIn, noPair, pairOrNone, pairCount};
+use layout::CONJUNCT_LIMIT;
 use lookup::numbers::expression_of;
 use parts::equalities::ColumnEquality;
-use parts::equalities::column_equality;
 use parts::equalities::is_null_safe;
 use records::expressions::Expression;
 use sheet::Sections;
+
+// Two columns, and whether their equality is null-safe.
+pub struct EqualityPair {
+    pub left: u16,
+    pub right: u16,
+    pub null_safe: bool,
+}
+
+// The first `count` places hold pairs.
+pub struct EqualityPairs {
+    pub pairs: [EqualityPair; CONJUNCT_LIMIT],
+    pub count: usize,
+}
 
 fn null_safe_in(x: Expression) -> bool
     ensures { λ r. ⌜ r ≡ nullSafeIn x ⌝ }
@@ -36,30 +47,43 @@ fn null_safe_in(x: Expression) -> bool
     }
 }
 
-// The pair of one conjunct goes behind n others, where it has one.
-pub fn put_pair(
-    s: &[u8],
-    q: Sections,
-    e: u16,
-    lefts: &mut [u16],
-    rights: &mut [u16],
-    null_safes: &mut [bool],
-    n: usize,
-) -> usize
-    requires { ⌜ (n < 64) × ((length (now lefts) ≡ 64) × ((length (now rights) ≡ 64) × (length (now «null_safes») ≡ 64))) ⌝ }
-    ensures { λ r. ⌜ r ≡ n + length (equalityPair (sheetOf (now (s .entry)) q) e) ⌝ }
-    ensures { λ _. ⌜ now (lefts .exit) ≡ sets (now (lefts .entry)) n (map leftOf (equalityPair (sheetOf (now (s .entry)) q) e)) ⌝ }
-    ensures { λ _. ⌜ now (rights .exit) ≡ sets (now (rights .entry)) n (map rightOf (equalityPair (sheetOf (now (s .entry)) q) e)) ⌝ }
-    ensures { λ _. ⌜ now («null_safes» .exit) ≡ sets (now («null_safes» .entry)) n (map kindOf (equalityPair (sheetOf (now (s .entry)) q) e)) ⌝ }
+fn no_pair() -> EqualityPair
+    ensures { λ r. ⌜ r ≡ noPair ⌝ }
 {
-    let equality = column_equality(s, q, e);
+    EqualityPair {
+        left: 0,
+        right: 0,
+        null_safe: false,
+    }
+}
+
+// No pair in any place.
+pub fn no_pairs() -> [EqualityPair; CONJUNCT_LIMIT]
+    ensures { λ r. ⌜ r ≡ replicate conjunctLimit noPair ⌝ }
+{
+    let none = no_pair();
+    [none; CONJUNCT_LIMIT]
+}
+
+// The pair of the conjunct e, or none.
+pub fn pair_or_none(s: &[u8], q: Sections, e: u16, equality: ColumnEquality) -> EqualityPair
+    ensures { λ r. ⌜ r ≡ pairOrNone (nullSafeIn (expressionOf (sheetOf (now (s .entry)) q) e)) equality ⌝ }
+{
     match equality {
-        ColumnEquality::Absent => n,
-        ColumnEquality::Present { left, right } => {
-            lefts[n] = left;
-            rights[n] = right;
-            null_safes[n] = null_safe_in(expression_of(s, q, e));
-            n + 1
-        }
+        ColumnEquality::Absent => no_pair(),
+        ColumnEquality::Present { left, right } => EqualityPair {
+            left,
+            right,
+            null_safe: null_safe_in(expression_of(s, q, e)),
+        },
+    }
+}
+
+pub fn pair_count(equality: ColumnEquality) -> usize
+    ensures { λ r. ⌜ r ≡ pairCount equality ⌝ }
+{
+    match equality {
+        ColumnEquality::Absent => 0,
+        ColumnEquality::Present { left: _, right: _ } => 1,
     }
 }

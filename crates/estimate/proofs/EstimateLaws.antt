@@ -1,23 +1,33 @@
--- Laws of an estimate's 26 bytes: they are 26, what a sheet may hold is written and read back, and what a sheet was accepted with is written as it stood. Assumes nothing.
+-- Laws of an estimate's bytes: their length, that what a sheet may hold is written, read back and accepted, that what a sheet was accepted with is written as it stood, and the order. Assumes nothing.
 use Prim.Native.Nat.{ℕ, zero, suc, _+_, _*_, _^_, _≤_, _<_}
-use mathlib.Core.Path.{_≡_, refl, sym, ap, _∙_}
-use mathlib.Core.Logic.{inl, inr}
-use mathlib.Core.Bool.{Bool, true, false, not, cond}
+use mathlib.Core.Path.{_≡_, refl, sym, ap, _∙_, subst}
+use mathlib.Core.Logic.{_⊎_, inl, inr}
+use mathlib.Core.Bool.{Bool, true, false, not, cond, _||_}
 use mathlib.Core.List.{List, [], _∷_, _++_}
 use native.Mathlib.Omega.{arith}
 use borrow.Author.Tests.{ne-eqb, leb-true, le-leb, eqb-true}
 use lib.Dec.{T, leb, eqb}
+use lib.IntN.{pos, negsuc}
 use lib.ListN.{length, take, drop}
-use lib.Seq.{drop-cons}
 use lib.Ieee.{Float, nan, inf, fin, binary64, fits, le, isNan, ofBits, toBits}
 use lib.Ieee.Bits.{is-true, ofBits-toBits, toBits-lt, toBits-ofBits, ofBits-fits}
+use lib.Ieee.Fits.{and-l, and-r}
+use lib.Ieee.Positive as Positive
+use lib.Ieee.Positive.{positive}
 use Rattle.float.specs.Integers.{bit}
+use Rattle.float.specs.Ranges.{plusZero, between, zeroOrBetween}
 use Rattle.float.specs.declared.option.OptionF64.{OptionF64}
+use Rattle.float.proofs.RangeLaws.{plus-zero-is}
 use Rattle.le.specs.Fields.{byteAt, fieldBytes, u64At, u64Bytes}
 use Rattle.le.specs.Floats.{f64At, f64Bytes}
-use Rattle.le.proofs.FieldLaws.{Bytes, field-below, bytes-back, field-found, cut}
-use Rattle.rules.specs.Rules.{ask, orElse}
-use Rattle.estimate.specs.Bytes.{sourceNumber, sourceOf, lowerFlag, upperFlag, flagsNumber, optionAt, estimateAt, figureLawful, boundRefusal, estimateRefusal, optionBits, estimateBytes, LawfulBound, LawfulEstimate}
+use Rattle.le.proofs.FieldLaws.{Bytes, field-below, bytes-back, field-found}
+use Rattle.rules.specs.Rules.{ask}
+use Rattle.layout.specs.Places.{estimateSize}
+use Rattle.layout.specs.Fields.{sizeOf, bytesOf, noRule}
+use Rattle.layout.specs.Lawful.{LawfulField, asField, Figure}
+use Rattle.layout.proofs.LayoutLaws.{EachField, _and_, fields-kept, kept-fields, stands, written, sizes, record-lawful, group-lawful, byte-read, byte-back, byte-lawful}
+use Rattle.layout.proofs.FloatLaws.{positive-figure, zero-bits, zero-figure, pattern-lawful}
+use Rattle.estimate.specs.Bytes.{sourceNumber, sourceOf, lowerFlag, upperFlag, flagsNumber, optionAt, estimateAt, figureLawful, boundRefusal, optionBits, estimateFields, estimateRefusal, estimateBytes, estimate, LawfulFigure, LawfulBound, LawfulEstimate}
 use Rattle.estimate.specs.Estimates.{estimateOf, lowerBound, upperBound}
 use Rattle.estimate.specs.declared.Estimate.{Estimate}
 use Rattle.estimate.specs.declared.EstimateSource.{EstimateSource}
@@ -77,11 +87,6 @@ kept : (b : Bool) (n : ℕ) → ask b (suc n) ≡ 0 → T b
 kept true n e = tt
 kept false n e = let z : suc n ≡ 0 = e in omega arith
 
--- the first rule is kept, and so are the others
-both-kept : (a b : ℕ) → orElse a b ≡ 0 → (a ≡ 0) × (b ≡ 0)
-both-kept zero b e = (refl, e)
-both-kept (suc a) b e = let z : suc a ≡ 0 = e in absurd (omega arith)
-
 bound-back : (p : Bool) (s : List ℕ) (at : ℕ) → Bytes s → boundRefusal p s at ≡ 0 → optionBits (optionAt p s at) ≡ u64At s at
 bound-back true s at b e = figure-back s at b (kept (figureLawful (f64At s at)) 3 e)
 bound-back false s at b e = sym (eqb-true (u64At s at) 0 (is-true (eqb (u64At s at) 0) (kept (eqb (u64At s at) 0) 5 e)))
@@ -96,29 +101,29 @@ present-is false s at = refl
 
 -- ---- what an accepted record keeps
 
-record Kept (s : List ℕ) (at : ℕ) : Type 0 where
+record Accepted (s : List ℕ) (at : ℕ) : Type 0 where
   source : byteAt s at ≤ 4
   flags : byteAt s (at + 1) ≤ 3
   value : T (figureLawful (f64At s (at + 2)))
   lower : boundRefusal (lowerFlag (byteAt s (at + 1))) s (at + 10) ≡ 0
   upper : boundRefusal (upperFlag (byteAt s (at + 1))) s (at + 18) ≡ 0
 
-all-kept : (s : List ℕ) (at : ℕ) → estimateRefusal s at ≡ 0 → Kept s at
+all-kept : (s : List ℕ) (at : ℕ) → estimateRefusal s at ≡ 0 → Accepted s at
 unfolding estimateRefusal
 all-kept s at e =
-    let a = both-kept _ _ e in
-    let b = both-kept _ _ (a .1) in
-    let c = both-kept _ _ (b .1) in
-    let d = both-kept _ _ (c .1) in
+    let k = fields-kept estimateFields (byteAt s (at + 1)) s at 0 e in
     record {
-      source = leb-true (byteAt s at) 4 (is-true _ (kept (leb (byteAt s at) 4) 5 (a .0)));
-      flags = leb-true (byteAt s (at + 1)) 3 (is-true _ (kept (leb (byteAt s (at + 1)) 3) 5 (b .0)));
-      value = kept (figureLawful (f64At s (at + 2))) 3 (c .0);
-      lower = d .0;
-      upper = d .1;
+      source = leb-true (byteAt s at) 4 (is-true _ (kept (leb (byteAt s at) 4) 5 (k .0)));
+      flags = leb-true (byteAt s (at + 1)) 3 (is-true _ (kept (leb (byteAt s (at + 1)) 3) 5 (k .1 .0)));
+      value = kept (figureLawful (f64At s (at + 2))) 3 (k .1 .1 .0);
+      lower = k .1 .1 .1 .0;
+      upper = k .1 .1 .1 .1 .0;
     }
 
 -- ---- the length, and what an accepted record reads as
+
+pub size-is : sizeOf estimateFields ≡ estimateSize
+size-is = refl
 
 pub estimate-length : (e : Estimate) → length (estimateBytes e) ≡ 26
 unfolding estimateBytes fieldBytes
@@ -142,52 +147,65 @@ accepted-lawful s at e =
 
 -- ---- written as it stood
 
-one-back : (v : ℕ) (s : List ℕ) (at : ℕ) → v ≡ byteAt s at → at < length s → v ∷ [] ≡ take 1 (drop at s)
-one-back v s at e h = rw (drop-cons s at 0 h, e) refl
-
 word-back : (v : ℕ) (s : List ℕ) (at : ℕ) → v ≡ u64At s at → Bytes s → at + 8 ≤ length s → u64Bytes v ≡ take 8 (drop at s)
 word-back v s at e b h = ap u64Bytes e ∙ bytes-back 8 s at b h
 
-parts : (s : List ℕ) (at : ℕ) → take 26 (drop at s) ≡ take 1 (drop at s) ++ (take 1 (drop (at + 1) s) ++ (take 8 (drop (at + 2) s) ++ (take 8 (drop (at + 10) s) ++ take 8 (drop (at + 18) s))))
-parts s at = rw (cut 1 25 s at (at + 1) refl, cut 1 24 s (at + 1) (at + 2) (omega arith), cut 8 16 s (at + 2) (at + 10) (omega arith), cut 8 8 s (at + 10) (at + 18) (omega arith)) refl
-
-pub written-back : (s : List ℕ) (at : ℕ) → Bytes s → at + 26 ≤ length s → estimateRefusal s at ≡ 0 → estimateBytes (estimateAt s at) ≡ take 26 (drop at s)
-unfolding estimateBytes estimateAt
-written-back s at b h e =
+pub estimate-written : (s : List ℕ) (at : ℕ) → Bytes s → at + 26 ≤ length s → estimateRefusal s at ≡ 0 → bytesOf estimateFields (estimateAt s at) ≡ take 26 (drop at s)
+unfolding estimateAt
+estimate-written s at b h e =
     let k = all-kept s at e in
     let lower = lowerFlag (byteAt s (at + 1)) in
     let upper = upperFlag (byteAt s (at + 1)) in
-    let source : sourceNumber (sourceOf (byteAt s at)) ∷ [] ≡ take 1 (drop at s) = one-back _ s at (source-back (byteAt s at) (k .source)) (omega arith) in
-    let flags : (bit (optionAt lower s (at + 10) .present) + 2 * bit (optionAt upper s (at + 18) .present)) ∷ [] ≡ take 1 (drop (at + 1) s)
-    = one-back _ s (at + 1) (rw (present-is lower s (at + 10), present-is upper s (at + 18)) (flags-back (byteAt s (at + 1)) (k .flags))) (omega arith) in
-    let value : f64Bytes (f64At s (at + 2)) ≡ take 8 (drop (at + 2) s) = word-back _ s (at + 2) (figure-back s (at + 2) b (k .value)) b (omega arith) in
-    let low : u64Bytes (optionBits (optionAt lower s (at + 10))) ≡ take 8 (drop (at + 10) s) = word-back _ s (at + 10) (bound-back lower s (at + 10) b (k .lower)) b (omega arith) in
-    let high : u64Bytes (optionBits (optionAt upper s (at + 18))) ≡ take 8 (drop (at + 18) s) = word-back _ s (at + 18) (bound-back upper s (at + 18) b (k .upper)) b (omega arith) in
-    (λ i. source i ++ (flags i ++ (value i ++ (low i ++ high i)))) ∙ sym (parts s at)
+    let flags : bit (optionAt lower s (at + 10) .present) + 2 * bit (optionAt upper s (at + 18) .present) ≡ byteAt s (at + 1)
+    = rw (present-is lower s (at + 10), present-is upper s (at + 18)) (flags-back (byteAt s (at + 1)) (k .flags)) in
+    written estimateFields (estimateAt s at) s at 0
+    (byte-back _ s at (source-back (byteAt s at) (k .source)) (omega arith)
+    and byte-back _ s (at + 1) flags (omega arith)
+    and word-back _ s (at + 2) (figure-back s (at + 2) b (k .value)) b (omega arith)
+    and word-back _ s (at + 10) (bound-back lower s (at + 10) b (k .lower)) b (omega arith)
+    and word-back _ s (at + 18) (bound-back upper s (at + 18) b (k .upper)) b (omega arith)
+    and tt)
 
--- ---- read as it was written
+-- ---- the order: two are the same where their bytes are
 
-bits-small : (x : Float) → T (fits binary64 x) → toBits binary64 x < 256 ^ 8
-bits-small x h = toBits-lt binary64 x h
+or-split : (a b : Bool) → T (a || b) → T a ⊎ T b
+or-split true b t = inl tt
+or-split false b t = inr t
+
+-- what lies between positive bounds, or is +0
+pub range-figure : (low high x : Float) → T (positive low) → T (positive high) → T (fits binary64 x) → T (zeroOrBetween low high x) → Figure x
+range-figure low high x p q h l = elim (or-split (plusZero x) (between low high x) l) [
+  | inl z ↦ subst Figure (sym (plus-zero-is x h z)) zero-figure
+  | inr b ↦ positive-figure x h (Positive.between low x high p q (and-l (le low x) (le x high) b) (and-r (le low x) (le x high) b))
+]
+
+figure : (x : Float) → LawfulFigure x → Figure x
+figure x f = range-figure (fin false 1 (negsuc 63)) (fin false 1 (pos 64)) x tt tt (f .held) (f .lawful)
+
+option-figure : (x : OptionF64) → LawfulBound x → Figure (x .number) × (toBits binary64 (x .number) ≡ optionBits x)
+option-figure x (inl h) = (figure (x .number) (h .1), sym (ap (λ (t : Bool). cond t (toBits binary64 (x .number)) 0) (h .0)))
+option-figure x (inr h) = subst (λ (y : OptionF64). Figure (y .number) × (toBits binary64 (y .number) ≡ optionBits y)) (sym h) (zero-figure, zero-bits)
+
+estimate-fields : EachField (LawfulField LawfulEstimate) estimateFields
+estimate-fields =
+    (byte-lawful LawfulEstimate (λ x. sourceNumber (x .source)) _
+    and byte-lawful LawfulEstimate flagsNumber _
+    and pattern-lawful LawfulEstimate (λ x. x .value) (λ x. toBits binary64 (x .value)) _ (λ x h. (figure (x .value) (h .value), refl))
+    and pattern-lawful LawfulEstimate (λ x. x .lower) (λ x. optionBits (lowerBound x)) _ (λ x h. option-figure (lowerBound x) (h .lower))
+    and pattern-lawful LawfulEstimate (λ x. x .upper) (λ x. optionBits (upperBound x)) _ (λ x h. option-figure (upperBound x) (h .upper))
+    and tt)
+
+pub estimate-lawful : LawfulField LawfulEstimate (asField estimateFields)
+estimate-lawful = record-lawful LawfulEstimate estimateFields estimate-fields
+
+-- in another record
+pub part-lawful : {C A : Type 0} (L : A → Type 0) (get : A → Estimate) → ((x : A) → L x → LawfulEstimate (get x)) → LawfulField {C = C} L (estimate get)
+part-lawful L get h = group-lawful L LawfulEstimate get (λ c. estimateRefusal) estimateFields h estimate-lawful
+
+-- ---- read as it was written, and accepted
 
 option-bits-small : (x : OptionF64) → LawfulBound x → optionBits x < 256 ^ 8
-option-bits-small x (inl h) = rw (h .0) (bits-small (x .number) (h .1 .held))
-option-bits-small x (inr h) = rw h (omega arith)
-
--- the three numbers behind the source and the flags
-value-at : (e : Estimate) (t : List ℕ) → T (fits binary64 (e .value)) → f64At (estimateBytes e ++ t) 2 ≡ e .value
-unfolding estimateBytes fieldBytes
-value-at e t h =
-    ap (ofBits binary64) (field-found 8 (toBits binary64 (e .value)) (estimateBytes e ++ t) (u64Bytes (optionBits (lowerBound e)) ++ (u64Bytes (optionBits (upperBound e)) ++ t)) 2 (bits-small (e .value) h) refl)
-    ∙ ofBits-toBits binary64 (e .value) h
-
-lower-at : (e : Estimate) (t : List ℕ) → LawfulBound (lowerBound e) → u64At (estimateBytes e ++ t) 10 ≡ optionBits (lowerBound e)
-unfolding estimateBytes fieldBytes
-lower-at e t h = field-found 8 (optionBits (lowerBound e)) (estimateBytes e ++ t) (u64Bytes (optionBits (upperBound e)) ++ t) 10 (option-bits-small (lowerBound e) h) refl
-
-upper-at : (e : Estimate) (t : List ℕ) → LawfulBound (upperBound e) → u64At (estimateBytes e ++ t) 18 ≡ optionBits (upperBound e)
-unfolding estimateBytes fieldBytes
-upper-at e t h = field-found 8 (optionBits (upperBound e)) (estimateBytes e ++ t) t 18 (option-bits-small (upperBound e) h) refl
+option-bits-small x h = let f = option-figure x h in let l = toBits-lt binary64 (x .number) (f .0 .held) in subst (λ (n : ℕ). n < 256 ^ 8) (f .1) l
 
 -- a bound read where its pattern stands
 given-at : (x : OptionF64) (s : List ℕ) (k : ℕ) → x .present ≡ true → T (fits binary64 (x .number)) → u64At s k ≡ optionBits x → f64At s k ≡ x .number
@@ -208,25 +226,50 @@ bound-kept p x s k e (inr h) u =
     ap (λ (b : Bool). boundRefusal b s k) (e ∙ ap (λ (y : OptionF64). y .present) h)
     ∙ ap (λ (v : ℕ). ask (eqb v 0) 6) (u ∙ ap (λ (y : OptionF64). optionBits y) h)
 
-pub read-back : (e : Estimate) (t : List ℕ) → LawfulEstimate e → estimateAt (estimateBytes e ++ t) 0 ≡ e
-unfolding estimateBytes estimateAt
-read-back e t h =
-    let f = flag-bits (e .«has_lower») (e .«has_upper») in
-    let value = value-at e t (h .value .held) in
-    let lower = bound-read (lowerFlag (flagsNumber e)) (lowerBound e) (estimateBytes e ++ t) 10 (f .0) (h .lower) (lower-at e t (h .lower)) in
-    let upper = bound-read (upperFlag (flagsNumber e)) (upperBound e) (estimateBytes e ++ t) 18 (f .1) (h .upper) (upper-at e t (h .upper)) in
-    λ i. estimateOf (value i) (lower i) (upper i) (source-known (e .source) .1 i)
+record Read (x : Estimate) (s : List ℕ) (at : ℕ) : Type 0 where
+  source : byteAt s at ≡ sourceNumber (x .source)
+  lowerFlag : lowerFlag (byteAt s (at + 1)) ≡ x .«has_lower»
+  upperFlag : upperFlag (byteAt s (at + 1)) ≡ x .«has_upper»
+  flags : byteAt s (at + 1) ≡ flagsNumber x
+  value : f64At s (at + 2) ≡ x .value
+  lower : u64At s (at + 10) ≡ optionBits (lowerBound x)
+  upper : u64At s (at + 18) ≡ optionBits (upperBound x)
 
-pub read-accepted : (e : Estimate) (t : List ℕ) → LawfulEstimate e → estimateRefusal (estimateBytes e ++ t) 0 ≡ 0
-unfolding estimateBytes estimateRefusal
-read-accepted e t h =
-    let f = flag-bits (e .«has_lower») (e .«has_upper») in
-    let a = bit-small (e .«has_lower») in
-    let b = bit-small (e .«has_upper») in
-    let source : ask (leb (sourceNumber (e .source)) 4) 6 ≡ 0 = ap (λ (b : Bool). ask b 6) (le-leb (sourceNumber (e .source)) 4 (source-known (e .source) .0)) in
-    let flags : ask (leb (flagsNumber e) 3) 6 ≡ 0 = ap (λ (b : Bool). ask b 6) (le-leb (flagsNumber e) 3 (omega arith)) in
-    let value : ask (figureLawful (f64At (estimateBytes e ++ t) 2)) 4 ≡ 0
-    = ap (λ (x : Float). ask (figureLawful x) 4) (value-at e t (h .value .held)) ∙ ap (λ (b : Bool). ask b 4) (is-true (figureLawful (e .value)) (h .value .lawful)) in
-    let lower = bound-kept (lowerFlag (flagsNumber e)) (lowerBound e) (estimateBytes e ++ t) 10 (f .0) (h .lower) (lower-at e t (h .lower)) in
-    let upper = bound-kept (upperFlag (flagsNumber e)) (upperBound e) (estimateBytes e ++ t) 18 (f .1) (h .upper) (upper-at e t (h .upper)) in
-    λ i. orElse (source i) (orElse (flags i) (orElse (value i) (orElse (lower i) (upper i))))
+fields-read : (x : Estimate) (s t : List ℕ) (at : ℕ) → LawfulEstimate x → drop at s ≡ bytesOf estimateFields x ++ t → Read x s at
+fields-read x s t at h e =
+    let fields = stands estimateFields (sizes LawfulEstimate estimateFields estimate-fields) x s t at 0 e in
+    let flags : byteAt s (at + 1) ≡ flagsNumber x = byte-read {C = ℕ} flagsNumber noRule x s (at + 1) (fields .1 .0) in
+    let f = flag-bits (x .«has_lower») (x .«has_upper») in
+    let value : u64At s (at + 2) ≡ toBits binary64 (x .value) = field-found 8 (toBits binary64 (x .value)) s (fields .1 .1 .0 .0) (at + 2) (toBits-lt binary64 (x .value) (h .value .held)) (fields .1 .1 .0 .1) in
+    record {
+      source = byte-read {C = ℕ} (λ y. sourceNumber (y .source)) noRule x s at (fields .0);
+      lowerFlag = ap lowerFlag flags ∙ f .0;
+      upperFlag = ap upperFlag flags ∙ f .1;
+      flags = flags;
+      value = ap (ofBits binary64) value ∙ ofBits-toBits binary64 (x .value) (h .value .held);
+      lower = field-found 8 (optionBits (lowerBound x)) s (fields .1 .1 .1 .0 .0) (at + 10) (option-bits-small (lowerBound x) (h .lower)) (fields .1 .1 .1 .0 .1);
+      upper = field-found 8 (optionBits (upperBound x)) s (fields .1 .1 .1 .1 .0 .0) (at + 18) (option-bits-small (upperBound x) (h .upper)) (fields .1 .1 .1 .1 .0 .1);
+    }
+
+pub estimate-read : (x : Estimate) (s t : List ℕ) (at : ℕ) → LawfulEstimate x → drop at s ≡ bytesOf estimateFields x ++ t → estimateAt s at ≡ x
+unfolding estimateAt
+estimate-read x s t at h e =
+    let r = fields-read x s t at h e in
+    let source = ap sourceOf (r .source) ∙ source-known (x .source) .1 in
+    let lower = bound-read (lowerFlag (byteAt s (at + 1))) (lowerBound x) s (at + 10) (r .lowerFlag) (h .lower) (r .lower) in
+    let upper = bound-read (upperFlag (byteAt s (at + 1))) (upperBound x) s (at + 18) (r .upperFlag) (h .upper) (r .upper) in
+    λ i. estimateOf (r .value i) (lower i) (upper i) (source i)
+
+pub estimate-accepted : (x : Estimate) (s t : List ℕ) (at : ℕ) → LawfulEstimate x → drop at s ≡ bytesOf estimateFields x ++ t → estimateRefusal s at ≡ 0
+unfolding estimateRefusal
+estimate-accepted x s t at h e =
+    let r = fields-read x s t at h e in
+    let a = bit-small (x .«has_lower») in
+    let b = bit-small (x .«has_upper») in
+    kept-fields estimateFields (byteAt s (at + 1)) s at 0
+    (ap (λ (n : ℕ). ask (leb n 4) 6) (r .source) ∙ ap (λ (b : Bool). ask b 6) (le-leb (sourceNumber (x .source)) 4 (source-known (x .source) .0))
+    and ap (λ (n : ℕ). ask (leb n 3) 6) (r .flags) ∙ ap (λ (b : Bool). ask b 6) (le-leb (flagsNumber x) 3 (omega arith))
+    and ap (λ (y : Float). ask (figureLawful y) 4) (r .value) ∙ ap (λ (b : Bool). ask b 4) (is-true (figureLawful (x .value)) (h .value .lawful))
+    and bound-kept (lowerFlag (byteAt s (at + 1))) (lowerBound x) s (at + 10) (r .lowerFlag) (h .lower) (r .lower)
+    and bound-kept (upperFlag (byteAt s (at + 1))) (upperBound x) s (at + 18) (r .upperFlag) (h .upper) (r .upper)
+    and tt)

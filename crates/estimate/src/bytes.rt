@@ -1,8 +1,9 @@
-// The 26 bytes of an estimate: source, flags, value, lower, upper.
+// The bytes of an estimate: source, flags, value, lower, upper.
 ghost use mathlib.Core.Path.{_≡_};
 ghost use Prim.Native.Nat.{_≤_, _<_, _^_};
 ghost use lib.ListN.{length};
 ghost use Rattle.le.specs.Fields.{onto};
+ghost use Rattle.layout.specs.Places.{estimateSize};
 ghost use Rattle.estimate.specs.Bytes.{sourceNumber, sourceOf, lowerFlag, upperFlag, flagsNumber, optionAt, estimateAt, figureLawful, boundRefusal, estimateRefusal, optionBits, estimateBytes};
 use crate::Estimate;
 use crate::EstimateSource;
@@ -12,6 +13,10 @@ use float::option::OptionF64;
 use float::option::none;
 use float::option::some;
 use float::ranges::zero_or_between;
+use layout::ESTIMATE_FLAGS_OFFSET;
+use layout::ESTIMATE_LOWER_OFFSET;
+use layout::ESTIMATE_UPPER_OFFSET;
+use layout::ESTIMATE_VALUE_OFFSET;
 use le::floats::f64_at;
 use le::floats::put_f64;
 use le::reads::byte_at;
@@ -75,13 +80,13 @@ pub fn estimate_at(s: &[u8], at: usize) -> Estimate
     requires { ⌜ at < 2 ^ 62 ⌝ }
     ensures { λ r. ⌜ r ≡ estimateAt (now (s .entry)) at ⌝ }
 {
-    let flags = byte_at(s, at + 1);
+    let flags = byte_at(s, at + ESTIMATE_FLAGS_OFFSET);
     let lower = lower_flag(flags);
     let upper = upper_flag(flags);
     estimate_of(
-        f64_at(s, at + 2),
-        option_at(lower, s, at + 10),
-        option_at(upper, s, at + 18),
+        f64_at(s, at + ESTIMATE_VALUE_OFFSET),
+        option_at(lower, s, at + ESTIMATE_LOWER_OFFSET),
+        option_at(upper, s, at + ESTIMATE_UPPER_OFFSET),
         source_of(byte_at(s, at)),
     )
 }
@@ -103,17 +108,17 @@ fn bound_refusal(present: bool, s: &[u8], at: usize) -> u8
     }
 }
 
-// The number of the first rule of an estimate that the 26 bytes at a place break, or 0.
+// The number of the first rule of an estimate that the bytes at a place break, or 0.
 pub fn estimate_refusal(s: &[u8], at: usize) -> u8
     requires { ⌜ at < 2 ^ 62 ⌝ }
     ensures { λ r. ⌜ r ≡ estimateRefusal (now (s .entry)) at ⌝ }
 {
-    let flags = byte_at(s, at + 1);
+    let flags = byte_at(s, at + ESTIMATE_FLAGS_OFFSET);
     let source = ask(byte_at(s, at) <= 4, 6);
     let known = ask(flags <= 3, 6);
-    let value = ask(figure_lawful(f64_at(s, at + 2)), 4);
-    let lower = bound_refusal(lower_flag(flags), s, at + 10);
-    let upper = bound_refusal(upper_flag(flags), s, at + 18);
+    let value = ask(figure_lawful(f64_at(s, at + ESTIMATE_VALUE_OFFSET)), 4);
+    let lower = bound_refusal(lower_flag(flags), s, at + ESTIMATE_LOWER_OFFSET);
+    let upper = bound_refusal(upper_flag(flags), s, at + ESTIMATE_UPPER_OFFSET);
     or_else(
         source,
         or_else(known, or_else(value, or_else(lower, upper))),
@@ -130,15 +135,21 @@ fn option_bits(x: OptionF64) -> u64
     }
 }
 
-// The 26 bytes of e at the front of out.
+// The bytes of e at the front of out.
 pub fn put_estimate(out: &mut [u8], e: Estimate)
-    requires { ⌜ 26 ≤ length (now out) ⌝ }
+    requires { ⌜ estimateSize ≤ length (now out) ⌝ }
     ensures { λ _. ⌜ now (out .exit) ≡ onto (estimateBytes e) (now (out .entry)) ⌝ }
 {
     let source = e.source;
     put_byte(out, source_number(source));
-    put_byte(&mut out[1..], flags_number(e));
-    put_f64(&mut out[2..], e.value);
-    put_u64(&mut out[10..], option_bits(Estimate::lower_bound(e)));
-    put_u64(&mut out[18..], option_bits(Estimate::upper_bound(e)));
+    put_byte(&mut out[ESTIMATE_FLAGS_OFFSET..], flags_number(e));
+    put_f64(&mut out[ESTIMATE_VALUE_OFFSET..], e.value);
+    put_u64(
+        &mut out[ESTIMATE_LOWER_OFFSET..],
+        option_bits(Estimate::lower_bound(e)),
+    );
+    put_u64(
+        &mut out[ESTIMATE_UPPER_OFFSET..],
+        option_bits(Estimate::upper_bound(e)),
+    );
 }

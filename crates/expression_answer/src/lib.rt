@@ -3,6 +3,7 @@ ghost use mathlib.Core.Path.{_≡_};
 ghost use Prim.Native.Nat.{_≤_};
 ghost use lib.ListN.{length};
 ghost use Rattle.sheet.specs.Sheet.{sheetOf};
+ghost use Rattle.layout.specs.Places.{operandLimit};
 ghost use Rattle.split.specs.Conjuncts.{conjuncts};
 ghost use Rattle.answers.specs.Answers.{bytes, answered, leaves, namedResult, expressionResult};
 ghost use Rattle.expression_answer.specs.Question.{answerBytes};
@@ -22,7 +23,7 @@ pub enum Question {
 }
 
 fn write_answer(question: Question, s: &[u8], q: Sections, e: u16, out: &mut [u8]) -> Answer
-    requires { ⌜ length (conjuncts (sheetOf (now s) q) e) ≤ 512 ⌝ }
+    requires { ⌜ length (conjuncts (sheetOf (now s) q) e) ≤ operandLimit ⌝ }
     ensures { λ r. ⌜ r ≡ answered (bytes (answerBytes question (sheetOf (now (s .entry)) q) e)) (now (out .entry)) ⌝ }
     ensures { λ _. ⌜ now (out .exit) ≡ leaves (bytes (answerBytes question (sheetOf (now (s .entry)) q) e)) (now (out .entry)) ⌝ }
 {
@@ -34,7 +35,7 @@ fn write_answer(question: Question, s: &[u8], q: Sections, e: u16, out: &mut [u8
 
 // Of a sheet that is accepted, with its sections' places.
 fn write_named(question: Question, s: &[u8], q: Sections, e: u16, out: &mut [u8]) -> Answer
-    requires { ⌜ length (conjuncts (sheetOf (now s) q) e) ≤ 512 ⌝ }
+    requires { ⌜ length (conjuncts (sheetOf (now s) q) e) ≤ operandLimit ⌝ }
     ensures { λ r. ⌜ r ≡ answered (namedResult (sheetOf (now (s .entry)) q) e (answerBytes question (sheetOf (now (s .entry)) q) e)) (now (out .entry)) ⌝ }
     ensures { λ _. ⌜ now (out .exit) ≡ leaves (namedResult (sheetOf (now (s .entry)) q) e (answerBytes question (sheetOf (now (s .entry)) q) e)) (now (out .entry)) ⌝ }
 {

@@ -5,6 +5,7 @@ ghost use Rattle.answers.specs.Answers.{bytes, answered, leaves};
 ghost use Rattle.expression_answer.specs.Predicate.{predicateBytes};
 use answers::Answer;
 use estimate::bytes::put_estimate;
+use layout::ESTIMATE_SIZE;
 use predicate::filter_selectivity_for_predicate;
 use sheet::Sections;
 
@@ -13,9 +14,9 @@ pub fn write_estimate(s: &[u8], q: Sections, e: u16, out: &mut [u8]) -> Answer
     ensures { λ r. ⌜ r ≡ answered (bytes (predicateBytes (sheetOf (now (s .entry)) q) e)) (now (out .entry)) ⌝ }
     ensures { λ _. ⌜ now (out .exit) ≡ leaves (bytes (predicateBytes (sheetOf (now (s .entry)) q) e)) (now (out .entry)) ⌝ }
 {
-    if 26 <= out.len() {
+    if ESTIMATE_SIZE <= out.len() {
         put_estimate(out, filter_selectivity_for_predicate(s, q, e));
-        return Answer::Written(26);
+        return Answer::Written(ESTIMATE_SIZE);
     }
     Answer::Refused(12)
 }

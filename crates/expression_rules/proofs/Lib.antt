@@ -1,2 +1,4 @@
 pub mod RunLaws
 pub mod RoomLaws
+pub mod ExpressionLaws
+pub mod NumberLaws

@@ -1,5 +1,5 @@
 -- What a record that breaks no rule gives: it is there whole, and the numbers in it name what there is. Assumes nothing.
-use Prim.Native.Nat.{ℕ, _+_, _-_, _*_, _≤_, _<_}
+use Prim.Native.Nat.{ℕ, _+_, _*_, _≤_, _<_}
 use mathlib.Core.Path.{_≡_, subst}
 use mathlib.Core.Bool.{_&&_}
 use mathlib.Core.List.{List}
@@ -10,8 +10,8 @@ use borrow.Author.Tests.{ltb-true, eqb-true}
 use Rattle.le.specs.Fields.{byteAt, u16At}
 use Rattle.rules.specs.Rules.{ask}
 use Rattle.rules.proofs.RuleLaws.{ask-kept, both-first, both-second, else-first, else-second}
-use Rattle.record_rules.specs.Fields.{whole}
-use Rattle.record_rules.proofs.RoomLaws.{whole-room}
+use Rattle.layout.specs.Fields.{whole}
+use Rattle.layout.proofs.LayoutLaws.{whole-room}
 use Rattle.expression_rules.specs.Expressions.{lastOp, firstFieldRefusal, expressionRefusal}
 use Rattle.expression_rules.specs.Operands.{expressionPlace, runsBefore, RunsFollow, operandRefusal, conjunctRefusal}
 

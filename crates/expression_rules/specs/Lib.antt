@@ -1,3 +1,5 @@
+pub mod Fields
 pub mod Expressions
 pub mod Operands
+pub mod Lawful
 pub mod Cases

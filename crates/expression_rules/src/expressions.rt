@@ -2,13 +2,19 @@
 ghost use mathlib.Core.Path.{_≡_};
 ghost use Prim.Native.Nat.{_<_, _^_};
 ghost use Rattle.expression_rules.specs.Expressions.{lastOp, firstFieldRefusal, secondFieldRefusal, literalRefusal, expressionRefusal};
+use layout::COLUMN_LIMIT;
+use layout::EXPRESSION_FIRST_OFFSET;
+use layout::EXPRESSION_OP_OFFSET;
+use layout::EXPRESSION_SCALAR_OFFSET;
+use layout::EXPRESSION_SECOND_OFFSET;
+use layout::EXPRESSION_SIZE;
 use le::reads::byte_at;
 use le::reads::u16_at;
 use record_rules::fields::whole;
 use rules::ask;
 use rules::or_else;
 use scalar_bytes::reads::ScalarPlace;
-use scalar_bytes::reads::scalar_lawful;
+use scalar_bytes::reads::scalar_refusal;
 use scalar_bytes::reads::zeros_19;
 
 // The number of a kind's last operator.
@@ -28,7 +34,7 @@ fn first_field_refusal(kind: u8, i: usize, run: usize, a: usize) -> u8
     ensures { λ r. ⌜ r ≡ firstFieldRefusal kind i run a ⌝ }
 {
     match kind {
-        1 => ask(a < 128, 7),
+        1 => ask(a < COLUMN_LIMIT, 7),
         2 => ask(a < i, 8),
         3 => ask(a < i, 8),
         4 => ask(a == run, 9),
@@ -53,7 +59,7 @@ fn literal_refusal(kind: u8, s: &[u8], at: usize) -> u8
     ensures { λ r. ⌜ r ≡ literalRefusal kind (now (s .entry)) at ⌝ }
 {
     if kind == 0 {
-        return ask(scalar_lawful(ScalarPlace::Literal, s, at), 5);
+        return scalar_refusal(ScalarPlace::Literal, s, at);
     }
     ask(zeros_19(s, at), 6)
 }
@@ -63,13 +69,15 @@ pub fn expression_refusal(s: &[u8], run: usize, i: usize, at: usize) -> u8
     requires { ⌜ at < 2 ^ 59 ⌝ }
     ensures { λ r. ⌜ r ≡ expressionRefusal (now (s .entry)) run i at ⌝ }
 {
-    let there = whole(25, s, at);
+    let there = whole(EXPRESSION_SIZE, s, at);
     let kind = byte_at(s, at);
     let known = ask(kind <= 6, 6);
-    let op = ask(byte_at(s, at + 1) <= last_op(kind), 6);
-    let a = first_field_refusal(kind, i, run, u16_at(s, at + 2) as usize);
-    let b = second_field_refusal(kind, i, u16_at(s, at + 4) as usize);
-    let literal = literal_refusal(kind, s, at + 6);
-    let fields = or_else(a, or_else(b, literal));
+    let op = ask(byte_at(s, at + EXPRESSION_OP_OFFSET) <= last_op(kind), 6);
+    let a = u16_at(s, at + EXPRESSION_FIRST_OFFSET) as usize;
+    let first = first_field_refusal(kind, i, run, a);
+    let b = u16_at(s, at + EXPRESSION_SECOND_OFFSET) as usize;
+    let second = second_field_refusal(kind, i, b);
+    let literal = literal_refusal(kind, s, at + EXPRESSION_SCALAR_OFFSET);
+    let fields = or_else(first, or_else(second, literal));
     or_else(there, or_else(known, or_else(op, fields)))
 }

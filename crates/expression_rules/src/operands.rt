@@ -3,7 +3,12 @@ ghost use mathlib.Core.Path.{_≡_};
 ghost use Prim.Native.Nat.{_<_, _≤_, _^_};
 ghost use Rattle.le.specs.Fields.{u16At};
 ghost use Rattle.rules.specs.Rules.{firstRefusal};
-ghost use Rattle.expression_rules.specs.Operands.{expressionPlace, isNary, runLength, runsBefore, runHolds, naryFrom, sameOperandRefusal, sharedRefusal, operandRefusal, conjunctRefusal};
+ghost use Rattle.expression_rules.specs.Operands.{expressionPlace, isNary, runLength, runsBefore, runHolds, naryFrom, fillRefusal, sameOperandRefusal, sharedRefusal, operandRefusal, conjunctRefusal};
+use layout::COUNT_SIZE;
+use layout::EXPRESSION_FIRST_OFFSET;
+use layout::EXPRESSION_SECOND_OFFSET;
+use layout::EXPRESSION_SIZE;
+use layout::NUMBER_SIZE;
 use le::reads::byte_at;
 use le::reads::u16_at;
 use record_rules::fields::whole;
@@ -15,7 +20,7 @@ fn expression_place(expressions: usize, e: usize) -> usize
     requires { ⌜ (expressions < 2 ^ 40) × (e < 2 ^ 50) ⌝ }
     ensures { λ r. ⌜ (r ≡ expressionPlace expressions e) × (r < 2 ^ 56) ⌝ }
 {
-    expressions + 2 + 25 * e
+    expressions + COUNT_SIZE + EXPRESSION_SIZE * e
 }
 
 fn is_nary(s: &[u8], at: usize) -> bool
@@ -30,7 +35,7 @@ pub fn run_length(s: &[u8], at: usize) -> usize
     ensures { λ r. ⌜ (r ≡ runLength (now (s .entry)) at) × (r < 2 ^ 16) ⌝ }
 {
     if is_nary(s, at) {
-        return u16_at(s, at + 4) as usize;
+        return u16_at(s, at + EXPRESSION_SECOND_OFFSET) as usize;
     }
     0
 }
@@ -49,14 +54,23 @@ pub fn runs_before(s: &[u8], expressions: usize, n: usize) -> usize
     sum
 }
 
+// There are n operands: the runs fill them.
+pub fn fill_refusal(s: &[u8], expressions: usize, n: u16) -> u8
+    requires { ⌜ expressions < 2 ^ 40 ⌝ }
+    ensures { λ r. ⌜ r ≡ fillRefusal (now (s .entry)) expressions n ⌝ }
+{
+    let named = u16_at(s, expressions) as usize;
+    ask(n as usize == runs_before(s, expressions, named), 9)
+}
+
 // Whether expression e is n-ary and operand i stands in its run.
 fn run_holds(s: &[u8], expressions: usize, i: usize, e: usize) -> bool
     requires { ⌜ (expressions < 2 ^ 40) × (e < 2 ^ 50) ⌝ }
     ensures { λ r. ⌜ r ≡ runHolds (now (s .entry)) expressions i e ⌝ }
 {
     let at = expression_place(expressions, e);
-    let first = u16_at(s, at + 2) as usize;
-    let end = first + u16_at(s, at + 4) as usize;
+    let first = u16_at(s, at + EXPRESSION_FIRST_OFFSET) as usize;
+    let end = first + u16_at(s, at + EXPRESSION_SECOND_OFFSET) as usize;
     both(is_nary(s, at), both(first <= i, i < end))
 }
 
@@ -84,7 +98,7 @@ fn named_before_refusal(s: &[u8], first: usize, i: usize, o: u16) -> u8
 {
     let mut j: usize = 0;
     while j < i {
-        if u16_at(s, first + 2 * j) == o {
+        if u16_at(s, first + NUMBER_SIZE * j) == o {
             return 9;
         }
         j += 1;
@@ -107,8 +121,8 @@ pub fn operand_refusal(s: &[u8], expressions: usize, owner: usize, first: usize,
     requires { ⌜ (expressions < 2 ^ 40) × ((first < 2 ^ 40) × (i < 2 ^ 16)) ⌝ }
     ensures { λ r. ⌜ r ≡ operandRefusal (now (s .entry)) expressions owner first i ⌝ }
 {
-    let at = first + 2 * i;
-    let there = whole(2, s, at);
+    let at = first + NUMBER_SIZE * i;
+    let there = whole(NUMBER_SIZE, s, at);
     let o = u16_at(s, at);
     let below = ask(both(o < u16_at(s, expressions), (o as usize) < owner), 8);
     let shared = shared_refusal(s, expressions, first, i, o);
@@ -118,7 +132,7 @@ pub fn operand_refusal(s: &[u8], expressions: usize, owner: usize, first: usize,
 pub fn conjunct_refusal(s: &[u8], expressions: usize, at: usize) -> u8
     ensures { λ r. ⌜ r ≡ conjunctRefusal (now (s .entry)) expressions at ⌝ }
 {
-    let there = whole(2, s, at);
+    let there = whole(NUMBER_SIZE, s, at);
     let named = ask(u16_at(s, at) < u16_at(s, expressions), 8);
     or_else(there, named)
 }

@@ -1,3 +1,4 @@
 pub mod Residual
+pub mod Conjuncts
 pub mod Join
 pub mod Joined

@@ -1,10 +1,11 @@
 // join_selectivity_from_conjuncts_with_config of the source's analysis.rs.
 ghost use mathlib.Core.Path.{_≡_};
-ghost use Prim.Native.Nat.{_*_, _≤_};
+ghost use Prim.Native.Nat.{_≤_};
 ghost use lib.ListN.{length};
+ghost use Rattle.layout.specs.Places.{conjunctLimit, coveragesSize};
 ghost use Rattle.le.specs.Fields.{onto};
 ghost use Rattle.sheet.specs.Sheet.{sheetOf};
-ghost use Rattle.edge_fold.specs.Coverages.{coverageSize, coveragesBytes};
+ghost use Rattle.edge_fold.specs.Coverages.{coveragesBytes};
 ghost use Rattle.join.specs.Join.{joinSelectivityFromConjuncts};
 ghost use Rattle.join.specs.Joined.{joined};
 use class_state::EquivalenceClassState;
@@ -13,16 +14,18 @@ use class_state::slots::root_of;
 use class_state::unions::move_roots;
 use class_state::unions::united;
 use conjuncts::take_conjuncts;
+use edge::places::edge_places;
 use edge_fold::edges::equality_edge;
 use edge_fold::fold::EqualityFigures;
 use edge_fold::fold::EqualityTotals;
 use edge_fold::fold::edge_totals;
 use edge_order::edge_order;
 use equality_pairs::non_null::non_null_marks;
-use equality_pairs::slots::column_at;
-use equality_pairs::slots::flag_at;
 use estimate::Estimate;
 use figures::join_figures;
+use layout::COLUMN_LIMIT;
+use layout::CONJUNCT_LIMIT;
+use lookup::places::column_places;
 use lookup::profiles::right_rows;
 use sheet::Sections;
 
@@ -37,7 +40,7 @@ pub struct Joined {
     pub match_probability: Estimate,
     pub residual_selectivity: f64,
     pub classes: EquivalenceClassState,
-    pub marks: [bool; 128],
+    pub marks: [bool; COLUMN_LIMIT],
     pub coverages: usize,
 }
 
@@ -55,40 +58,33 @@ pub fn join_selectivity_from_conjuncts(
     conjuncts: &[u16],
     coverages: &mut [u8],
 ) -> Joined
-    requires { ⌜ (length (now conjuncts) ≤ 64) × (coverageSize * 64 ≤ length (now coverages)) ⌝ }
+    requires { ⌜ (length (now conjuncts) ≤ conjunctLimit) × (coveragesSize ≤ length (now coverages)) ⌝ }
     ensures { λ r. ⌜ r ≡ joined (sheetOf (now (s .entry)) q) (now (conjuncts .entry)) ⌝ }
     ensures { λ _. ⌜ now (coverages .exit) ≡ onto (coveragesBytes (joinSelectivityFromConjuncts (sheetOf (now (s .entry)) q) (now (conjuncts .entry)) .leftEqualityCoverages)) (now (coverages .entry)) ⌝ }
 {
-    let mut lefts = [0u16; 64];
-    let mut rights = [0u16; 64];
-    let mut null_safes = [false; 64];
-    let taken = take_conjuncts(s, q, conjuncts, &mut lefts, &mut rights, &mut null_safes);
-    let n = taken.pairs;
+    let on_left = column_places(s, q.left_columns);
+    let on_right = column_places(s, q.right_columns);
+    let taken = take_conjuncts(s, q, conjuncts);
+    let pairs = taken.pairs;
     let residual = taken.residual_selectivity;
-    let marks = non_null_marks(&lefts, &rights, &null_safes, n);
+    let n = pairs.count;
+    let held = pairs.pairs;
+    let marks = non_null_marks(pairs);
     let profiles = from_profiles(s, q);
     let profile_roots = profiles.roots;
-    let mut keys = [0.0f64; 64];
-    let mut kinds = [false; 64];
+    let mut keys = [0.0f64; CONJUNCT_LIMIT];
+    let mut kinds = [false; CONJUNCT_LIMIT];
     let mut i: usize = 0;
     while i < n {
-        let left = column_at(&lefts, i);
-        let right = column_at(&rights, i);
-        let a = root_of(&profile_roots, left) as usize;
-        let b = root_of(&profile_roots, right) as usize;
-        let edge = equality_edge(
-            &marks,
-            left,
-            right,
-            flag_at(&null_safes, i),
-            profiles.distincts[a],
-            profiles.distincts[b],
-        );
+        let pair = held[i];
+        let a = root_of(&profile_roots, pair.left) as usize;
+        let b = root_of(&profile_roots, pair.right) as usize;
+        let edge = equality_edge(&marks, pair, profiles.distincts[a], profiles.distincts[b]);
         keys[i] = edge.chosen_ndv.value;
         kinds[i] = edge.null_safe;
         i += 1;
     }
-    let mut order = [0u8; 64];
+    let mut order = [0u8; CONJUNCT_LIMIT];
     edge_order(&keys, &kinds, n, &mut order);
     let mut totals = EqualityTotals {
         figures: EqualityFigures {
@@ -100,24 +96,17 @@ pub fn join_selectivity_from_conjuncts(
     };
     let mut roots = profiles.roots;
     let mut distincts = profiles.distincts;
-    let mut j = 64 - n;
-    while j < 64 {
+    let mut j = CONJUNCT_LIMIT - n;
+    while j < CONJUNCT_LIMIT {
         let k = wide(order[j]);
-        let left = column_at(&lefts, k);
-        let right = column_at(&rights, k);
-        let a = root_of(&profile_roots, left) as usize;
-        let b = root_of(&profile_roots, right) as usize;
-        let edge = equality_edge(
-            &marks,
-            left,
-            right,
-            flag_at(&null_safes, k),
-            profiles.distincts[a],
-            profiles.distincts[b],
-        );
-        let to = root_of(&roots, left);
-        let from = root_of(&roots, right);
-        totals = edge_totals(s, q, totals, edge, to == from, coverages);
+        let pair = held[k];
+        let a = root_of(&profile_roots, pair.left) as usize;
+        let b = root_of(&profile_roots, pair.right) as usize;
+        let edge = equality_edge(&marks, pair, profiles.distincts[a], profiles.distincts[b]);
+        let to = root_of(&roots, pair.left);
+        let from = root_of(&roots, pair.right);
+        let places = edge_places(s, q, &on_left, &on_right, edge.left, edge.right);
+        totals = edge_totals(s, q, totals, edge, places, to == from, coverages);
         let there = to as usize;
         let other = from as usize;
         distincts[there] = united(

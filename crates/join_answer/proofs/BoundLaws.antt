@@ -4,13 +4,14 @@ use mathlib.Core.Path.{_≡_}
 use mathlib.Core.List.{List}
 use native.Mathlib.Omega.{arith}
 use lib.ListN.{length}
+use Rattle.layout.specs.Places.{columnLimit, conjunctLimit, numberSize, coverageSize, joinFixedSize, longestJoin}
 use Rattle.sheet.specs.Sheet.{Sheet}
 use Rattle.class_state.specs.declared.EquivalenceClassState.{EquivalenceClassState}
 use Rattle.class_state.proofs.SizeLaws.{classes-size, classes-size-below}
-use Rattle.equality_pairs.specs.Pairs.{EqualityPair, equalityPairs}
+use Rattle.equality_pairs.specs.Pairs.{equalityPairs}
+use Rattle.equality_pairs.specs.declared.pairs.EqualityPair.{EqualityPair}
 use Rattle.equality_pairs.specs.NonNull.{nonNullMarks}
 use Rattle.equality_pairs.proofs.PairLaws.{pairs-length}
-use Rattle.edge_fold.specs.Coverages.{coverageSize}
 use Rattle.edge_fold.specs.Fold.{foldedPairs}
 use Rattle.equality_pairs.proofs.MarkedLaws.{marked-below}
 use Rattle.join.specs.Join.{joinEstimate, joinSelectivityFromConjuncts}
@@ -18,8 +19,7 @@ use Rattle.edge_fold.proofs.CountLaws.{coverage-count}
 use Rattle.join_answer.specs.Join.{joinBytes}
 use Rattle.join_answer.proofs.JoinLaws.{join-length}
 
--- 68 for the figures and the counts, 2,048 for the classes, 43 for each of 64 coverages, 2 for each of 128 columns
-pub join-within : (sheet : Sheet) (conjuncts : List ℕ) → length conjuncts ≤ 64 → length (joinBytes (joinSelectivityFromConjuncts sheet conjuncts)) ≤ 5124
+pub join-within : (sheet : Sheet) (conjuncts : List ℕ) → length conjuncts ≤ conjunctLimit → length (joinBytes (joinSelectivityFromConjuncts sheet conjuncts)) ≤ longestJoin
 unfolding joinSelectivityFromConjuncts joinEstimate
 join-within sheet conjuncts h = sum _ _ _ _ _ _ _ (join-length (joinSelectivityFromConjuncts sheet conjuncts)) (classes-size state) (classes-size-below (state .roots)) (coverage-count sheet pairs) (pairs-length sheet conjuncts) h (marked-below (nonNullMarks pairs))
   where
@@ -29,5 +29,5 @@ join-within sheet conjuncts h = sum _ _ _ _ _ _ _ (join-length (joinSelectivityF
     state : EquivalenceClassState
     state = foldedPairs sheet pairs .classes
 
-    sum : (all classes size coverages ps conjuncts columns : ℕ) → all ≡ 68 + classes + coverageSize * coverages + 2 * columns → classes ≡ size → size ≤ 2048 → coverages ≤ ps → ps ≤ conjuncts → conjuncts ≤ 64 → columns ≤ 128 → all ≤ 5124
+    sum : (all classes size coverages ps conjuncts columns : ℕ) → all ≡ joinFixedSize + classes + coverageSize * coverages + numberSize * columns → classes ≡ size → size ≤ 2048 → coverages ≤ ps → ps ≤ conjuncts → conjuncts ≤ conjunctLimit → columns ≤ columnLimit → all ≤ longestJoin
     sum all classes size coverages ps conjuncts columns a b c d e f g = omega arith

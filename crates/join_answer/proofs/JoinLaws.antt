@@ -10,60 +10,58 @@ use Rattle.le.specs.Fields.{fieldBytes, u16Bytes, onto}
 use Rattle.le.proofs.FieldLaws.{bytes-length}
 use Rattle.le.proofs.OntoLaws.{onto-part, onto-length}
 use Rattle.estimate.specs.declared.Estimate.{Estimate}
-use Rattle.number_bytes.specs.Numbers.{numbersBytes}
-use Rattle.number_bytes.proofs.NumberLaws.{numbers-length}
+use Rattle.number_bytes.specs.Numbers.{numbersBytes, counted, countedNumbers}
+use Rattle.number_bytes.proofs.NumberLaws.{numbers-length, counted-length}
 use Rattle.records.specs.Classes.{ColumnEquivalenceClass}
 use Rattle.records.specs.Lists.{tabulate}
 use Rattle.sheet.specs.Sheet.{Sheet}
-use Rattle.class_state.specs.State.{columnLimit, returnedRoots, classAtRoot, intoClasses}
+use Rattle.layout.specs.Places.{columnLimit, conjunctLimit, numberSize, coverageSize, joinClassesOffset, firstClassOffset, joinFixedSize}
+use Rattle.class_state.specs.State.{returnedRoots, classAtRoot, intoClasses}
 use Rattle.class_state.specs.Bytes.{classesBytes}
-use Rattle.class_state.specs.Sizes.{memberCount, returnedCount, countsSize, classesSize}
-use Rattle.class_state.proofs.SizeLaws.{classes-size}
+use Rattle.class_state.specs.Sizes.{memberCount, returnedCount, countsSize}
+use Rattle.class_state.proofs.SizeLaws.{classesSize, classes-size}
 use Rattle.class_state.proofs.CountLaws.{counts-size, counts-returned}
 use Rattle.equality_pairs.specs.Pairs.{equalityPairs}
 use Rattle.equality_pairs.specs.NonNull.{markedColumns}
 use Rattle.equality_pairs.proofs.PairLaws.{pairs-length}
-use Rattle.edge_fold.specs.Coverages.{coverageSize, coveragesBytes}
+use Rattle.edge_fold.specs.Coverages.{coveragesBytes}
 use Rattle.edge_fold.proofs.CoverageLaws.{coverages-length}
 use Rattle.edge_fold.proofs.CountLaws.{coverage-count}
-use Rattle.join_parts.specs.Parts.{figuresPart, coveragesPart, columnsPart, behindClasses}
+use Rattle.join_parts.specs.Parts.{figuresBytes}
 use Rattle.join_parts.proofs.PartLaws.{figures-length}
 use Rattle.join.specs.Join.{JoinSelectivityEstimate, joinEstimate, joinSelectivityFromConjuncts}
-use Rattle.join.specs.Joined.{joinedOf, joined}
+use Rattle.join.specs.Joined.{joined}
 use Rattle.join.specs.declared.Joined.{Joined}
-use Rattle.join_answer.specs.Join.{figuresBytes, joinBytes}
+use Rattle.join_answer.specs.Join.{joinBytes}
 
 -- ---- how many there are
 
+counted-figures : (a b : Estimate) (x : Float) → length (counted 1 (figuresBytes a b x)) ≡ joinClassesOffset
+counted-figures a b x = let c = counted-length 1 (figuresBytes a b x) in let f = figures-length a b x in omega arith
+
 module _ (j : JoinSelectivityEstimate) where
-  abbrev afterCoverages : List ℕ
-  afterCoverages = u16Bytes (length (j .nonNullEqualityColumns)) ++ numbersBytes (j .nonNullEqualityColumns)
+  abbrev figures : List ℕ
+  figures = figuresBytes (j .selectivity) (j .matchProbability) (j .residualSelectivity)
 
-  abbrev afterClasses : List ℕ
-  afterClasses = u16Bytes (length (j .leftEqualityCoverages)) ++ (coveragesBytes (j .leftEqualityCoverages) ++ afterCoverages)
+  abbrev classList : List ℕ
+  classList = classesBytes (j .equivalenceClasses)
 
-  abbrev afterFigures : List ℕ
-  afterFigures = u16Bytes (length (j .equivalenceClasses)) ++ (classesBytes (j .equivalenceClasses) ++ afterClasses)
+  abbrev coverageList : List ℕ
+  coverageList = coveragesBytes (j .leftEqualityCoverages)
 
-  figures-counted : length (u16Bytes 1 ++ figuresBytes j) ≡ 62
-  unfolding figuresPart figuresBytes
-  figures-counted = figures-length (j .selectivity) (j .matchProbability) (j .residualSelectivity)
-
-  pub join-length : length (joinBytes j) ≡ 68 + length (classesBytes (j .equivalenceClasses)) + coverageSize * length (j .leftEqualityCoverages) + 2 * length (j .nonNullEqualityColumns)
+  pub join-length : length (joinBytes j) ≡ joinFixedSize + length (classesBytes (j .equivalenceClasses)) + coverageSize * length (j .leftEqualityCoverages) + numberSize * length (j .nonNullEqualityColumns)
   unfolding joinBytes
   join-length =
-      let a = length-append (u16Bytes 1) (figuresBytes j ++ afterFigures) in
-      let b = length-append (figuresBytes j) afterFigures in
-      let c = length-append (u16Bytes 1) (figuresBytes j) in
-      let d = figures-counted in
-      let e = length-append (u16Bytes (length (j .equivalenceClasses))) (classesBytes (j .equivalenceClasses) ++ afterClasses) in
-      let f = length-append (classesBytes (j .equivalenceClasses)) afterClasses in
-      let g = length-append (u16Bytes (length (j .leftEqualityCoverages))) (coveragesBytes (j .leftEqualityCoverages) ++ afterCoverages) in
-      let h = length-append (coveragesBytes (j .leftEqualityCoverages)) afterCoverages in
-      let i = length-append (u16Bytes (length (j .nonNullEqualityColumns))) (numbersBytes (j .nonNullEqualityColumns)) in
-      let k = bytes-length 2 (length (j .equivalenceClasses)) in
-      let l = bytes-length 2 (length (j .leftEqualityCoverages)) in
-      let m = bytes-length 2 (length (j .nonNullEqualityColumns)) in
+      let p = counted (length (j .equivalenceClasses)) classList in
+      let q = counted (length (j .leftEqualityCoverages)) coverageList in
+      let r = countedNumbers (j .nonNullEqualityColumns) in
+      let a = length-append (counted 1 figures) (p ++ (q ++ r)) in
+      let b = length-append p (q ++ r) in
+      let c = length-append q r in
+      let d = counted-figures (j .selectivity) (j .matchProbability) (j .residualSelectivity) in
+      let e = counted-length (length (j .equivalenceClasses)) classList in
+      let f = counted-length (length (j .leftEqualityCoverages)) coverageList in
+      let g = counted-length (length (j .nonNullEqualityColumns)) (numbersBytes (j .nonNullEqualityColumns)) in
       let n = coverages-length (j .leftEqualityCoverages) in
       let o = numbers-length (j .nonNullEqualityColumns) in
       omega arith
@@ -73,20 +71,20 @@ module _ (j : JoinSelectivityEstimate) where
 -- the figures, then the number of classes behind them
 module _ (a b : Estimate) (x : Float) (n : ℕ) where
   abbrev front : List ℕ
-  front = figuresPart a b x ++ u16Bytes n
+  front = counted 1 (figuresBytes a b x) ++ u16Bytes n
 
-  front-length : length front ≡ 64
+  front-length : length front ≡ firstClassOffset
   front-length =
-      let l = length-append (figuresPart a b x) (u16Bytes n) in
-      let f = figures-length a b x in
+      let l = length-append (counted 1 (figuresBytes a b x)) (u16Bytes n) in
+      let f = counted-figures a b x in
       let u = bytes-length 2 n in
       omega arith
 
-  module _ (out X Y : List ℕ) (k : ℕ) (room : 64 ≤ length out) (f : X ≡ onto (figuresPart a b x) out) (g : k ≡ length X - 62) (h : Y ≡ onto (u16Bytes n) (take k (drop 62 X))) where
-    pub front-put : take 62 X ++ (Y ++ drop k (drop 62 X)) ≡ onto front out
-    front-put = onto-part (figuresPart a b x) (u16Bytes n) out X Y 62 k (figures-length a b x) g (omega arith) f h
+  module _ (out X Y : List ℕ) (k : ℕ) (room : firstClassOffset ≤ length out) (f : X ≡ onto (counted 1 (figuresBytes a b x)) out) (g : k ≡ length X - joinClassesOffset) (h : Y ≡ onto (u16Bytes n) (take k (drop joinClassesOffset X))) where
+    pub front-put : take joinClassesOffset X ++ (Y ++ drop k (drop joinClassesOffset X)) ≡ onto front out
+    front-put = onto-part (counted 1 (figuresBytes a b x)) (u16Bytes n) out X Y joinClassesOffset k (counted-figures a b x) g (omega arith) f h
 
-    pub front-put-length : length (take 62 X ++ (Y ++ drop k (drop 62 X))) ≡ length out
+    pub front-put-length : length (take joinClassesOffset X ++ (Y ++ drop k (drop joinClassesOffset X))) ≡ length out
     front-put-length = let l = front-length in ap length front-put ∙ onto-length front out (omega arith)
 
 -- a slice X got `front` at its front, then more behind it: both, by what the slice was before
@@ -110,23 +108,23 @@ module _ (sheet : Sheet) (conjuncts : List ℕ) (r : Joined) (e : r ≡ joined s
   abbrev j : JoinSelectivityEstimate
   j = joinSelectivityFromConjuncts sheet conjuncts
 
-  figures-are : figuresPart (r .selectivity) (r .«match_probability») (r .«residual_selectivity») ≡ u16Bytes 1 ++ figuresBytes j
-  unfolding joined joinedOf joinSelectivityFromConjuncts joinEstimate figuresPart figuresBytes
-  figures-are = ap (λ (x : Joined). figuresPart (x .selectivity) (x .«match_probability») (x .«residual_selectivity»)) e
+  figures-are : figuresBytes (r .selectivity) (r .«match_probability») (r .«residual_selectivity») ≡ figuresBytes (j .selectivity) (j .matchProbability) (j .residualSelectivity)
+  unfolding joined joinSelectivityFromConjuncts joinEstimate
+  figures-are = ap (λ (x : Joined). figuresBytes (x .selectivity) (x .«match_probability») (x .«residual_selectivity»)) e
 
   classes-are : intoClasses (r .classes) ≡ j .equivalenceClasses
-  unfolding joined joinedOf joinSelectivityFromConjuncts joinEstimate
+  unfolding joined joinSelectivityFromConjuncts joinEstimate
   classes-are = ap (λ (x : Joined). intoClasses (x .classes)) e
 
   coverages-are : r .coverages ≡ length (j .leftEqualityCoverages)
-  unfolding joined joinedOf joinSelectivityFromConjuncts joinEstimate
+  unfolding joined joinSelectivityFromConjuncts joinEstimate
   coverages-are = ap (λ (x : Joined). x .coverages) e
 
   columns-are : markedColumns (r .marks) ≡ j .nonNullEqualityColumns
-  unfolding joined joinedOf joinSelectivityFromConjuncts joinEstimate
+  unfolding joined joinSelectivityFromConjuncts joinEstimate
   columns-are = ap (λ (x : Joined). markedColumns (x .marks)) e
 
-  pub coverages-below : length conjuncts ≤ 64 → r .coverages ≤ 64
+  pub coverages-below : length conjuncts ≤ conjunctLimit → r .coverages ≤ conjunctLimit
   unfolding joinSelectivityFromConjuncts joinEstimate
   coverages-below h =
       let c = coverages-are in
@@ -136,7 +134,7 @@ module _ (sheet : Sheet) (conjuncts : List ℕ) (r : Joined) (e : r ≡ joined s
 
   -- by how many columns each root has
   module _ (counts : List ℕ) (c : counts ≡ tabulate (memberCount (r .classes .roots)) columnLimit) where
-    pub join-size : (classes marked : ℕ) → classes ≡ countsSize counts → marked ≡ length (markedColumns (r .marks)) → 68 + classes + coverageSize * (r .coverages) + 2 * marked ≡ length (joinBytes j)
+    pub join-size : (classes marked : ℕ) → classes ≡ countsSize counts → marked ≡ length (markedColumns (r .marks)) → joinFixedSize + classes + coverageSize * (r .coverages) + numberSize * marked ≡ length (joinBytes j)
     join-size classes marked f g =
         let a = join-length j in
         let k = counts-size (r .classes .roots) counts c in
@@ -177,23 +175,23 @@ module _ (sheet : Sheet) (conjuncts : List ℕ) (r : Joined) (e : r ≡ joined s
       classes = classesBytes (intoClasses (r .classes))
 
       abbrev behind : List ℕ
-      behind = behindClasses (r .coverages) bytes (markedColumns (r .marks))
+      behind = counted (r .coverages) (take (coverageSize * (r .coverages)) bytes) ++ countedNumbers (markedColumns (r .marks))
 
       -- the parts as they are put give the join's bytes
       parts-are : (inFront ++ classes) ++ behind ≡ joinBytes j
-      unfolding behindClasses coveragesPart columnsPart joinBytes figuresBytes fieldBytes
+      unfolding joinBytes figuresBytes fieldBytes
       parts-are =
           let count : n ≡ length (j .equivalenceClasses) = f ∙ class-count counts c ∙ ap length classes-are in
           λ i.
-          ((figures-are i ++ u16Bytes (count i)) ++ classesBytes (classes-are i))
-          ++ ((u16Bytes (coverages-are i) ++ coverages-front i) ++ (u16Bytes (length (columns-are i)) ++ numbersBytes (columns-are i)))
+          ((counted 1 (figures-are i) ++ u16Bytes (count i)) ++ classesBytes (classes-are i))
+          ++ (counted (coverages-are i) (coverages-front i) ++ countedNumbers (columns-are i))
 
       -- of a slice that held X with the figures and the count at its front, then Y with the classes behind them
-      pub all-put : (lent X Y Z : List ℕ) (at k : ℕ) → X ≡ onto inFront lent → Y ≡ onto (take 64 X ++ classes) X → at ≡ 64 + classesSize (r .classes .roots) → at ≤ length lent → k ≡ length Y - at
+      pub all-put : (lent X Y Z : List ℕ) (at k : ℕ) → X ≡ onto inFront lent → Y ≡ onto (take firstClassOffset X ++ classes) X → at ≡ firstClassOffset + classesSize (r .classes .roots) → at ≤ length lent → k ≡ length Y - at
           → Z ≡ onto behind (take k (drop at Y)) → take at Y ++ (Z ++ drop k (drop at Y)) ≡ onto (joinBytes j) lent
       all-put lent X Y Z at k x y a h g z =
           let d = length-append inFront classes in
           let l = front-length (r .selectivity) (r .«match_probability») (r .«residual_selectivity») n in
           let s = classes-size (r .classes) in
-          onto-part (inFront ++ classes) behind lent Y Z at k (omega arith) g h (onto-behind inFront classes lent X Y 64 l x y) z
+          onto-part (inFront ++ classes) behind lent Y Z at k (omega arith) g h (onto-behind inFront classes lent X Y firstClassOffset l x y) z
           ∙ ap (λ (bs : List ℕ). onto bs lent) parts-are

@@ -2,31 +2,23 @@
 use Prim.Native.Nat.{ℕ}
 use mathlib.Core.List.{List, _++_}
 use lib.ListN.{length}
-use Rattle.le.specs.Fields.{fieldBytes, u16Bytes}
-use Rattle.le.specs.Floats.{f64Bytes}
-use Rattle.estimate.specs.Bytes.{estimateBytes}
-use Rattle.number_bytes.specs.Numbers.{numbersBytes}
+use Rattle.le.specs.Fields.{fieldBytes}
+use Rattle.number_bytes.specs.Numbers.{numbersBytes, counted, countedNumbers}
 use Rattle.sheet.specs.Check.{check}
 use Rattle.sheet.specs.Sheet.{sheetIn, conjunctsIn}
 use Rattle.class_state.specs.Bytes.{classesBytes}
 use Rattle.join.specs.Join.{JoinSelectivityEstimate, joinSelectivityFromConjuncts}
 use Rattle.edge_fold.specs.Coverages.{coveragesBytes}
+use Rattle.join_parts.specs.Parts.{figuresBytes}
 use Rattle.answers.specs.Answers.{Result, bytes, sheetResult}
-
-unfoldable pub figuresBytes : JoinSelectivityEstimate → List ℕ
-unfolding estimateBytes fieldBytes
-figuresBytes j = estimateBytes (j .selectivity) ++ (estimateBytes (j .matchProbability) ++ f64Bytes (j .residualSelectivity))
 
 unfoldable pub joinBytes : JoinSelectivityEstimate → List ℕ
 unfolding figuresBytes fieldBytes classesBytes coveragesBytes numbersBytes
 joinBytes j =
-    u16Bytes 1
-    ++ (figuresBytes j
-    ++ (u16Bytes (length (j .equivalenceClasses))
-    ++ (classesBytes (j .equivalenceClasses)
-    ++ (u16Bytes (length (j .leftEqualityCoverages))
-    ++ (coveragesBytes (j .leftEqualityCoverages)
-    ++ (u16Bytes (length (j .nonNullEqualityColumns)) ++ numbersBytes (j .nonNullEqualityColumns)))))))
+    counted 1 (figuresBytes (j .selectivity) (j .matchProbability) (j .residualSelectivity))
+    ++ (counted (length (j .equivalenceClasses)) (classesBytes (j .equivalenceClasses))
+    ++ (counted (length (j .leftEqualityCoverages)) (coveragesBytes (j .leftEqualityCoverages))
+    ++ countedNumbers (j .nonNullEqualityColumns)))
 
 -- of the sheet's own conjuncts
 unfoldable pub joinResult : List ℕ → Result

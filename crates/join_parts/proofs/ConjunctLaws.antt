@@ -3,14 +3,11 @@ use Prim.Native.Nat.{ℕ, _+_, _*_, _≤_, _<_}
 use mathlib.Core.Path.{_≡_, refl, sym, ap, _∙_}
 use mathlib.Core.List.{List}
 use native.Mathlib.Omega.{arith}
-use borrow.Author.Tests.{leb-true}
 use lib.ListN.{length, take, set}
 use lib.Seq.{take-all}
 use Rattle.le.specs.Fields.{onto, u16At}
-use Rattle.rules.proofs.RuleLaws.{ask-kept, else-first, else-second}
-use Rattle.record_rules.specs.Fields.{whole}
-use Rattle.sheet.specs.Order.{kindAt, sectionAt, sectionsIn}
-use Rattle.sheet.specs.Rules.{countWithin, countRefusal}
+use Rattle.layout.specs.Places.{conjunctLimit, countSize, numberSize}
+use Rattle.sheet.specs.Order.{conjunctsNumber, sectionAt, sectionsIn}
 use Rattle.sheet.specs.Check.{sheetRefusal, check}
 use Rattle.sheet.specs.Sheet.{recordsIn, conjunctsOf, conjunctsIn}
 use Rattle.sheet.specs.declared.Sections.{Sections}
@@ -19,17 +16,17 @@ use Rattle.sheet.specs.declared.Checked.the-variants.{Accepted}
 use Rattle.sheet.specs.declared.order.Kind.the-variants.{Conjuncts}
 use Rattle.sheet.proofs.PlaceLaws.{conjuncts-fixed}
 use Rattle.sheet.proofs.SheetLaws.{records-length, fixed-record-at}
-use Rattle.sheet.proofs.AcceptedLaws.{accepted, accepted-count}
+use Rattle.sheet.proofs.AcceptedLaws.{accepted, accepted-within}
 use Rattle.join_parts.proofs.CopyLaws.{copied-next}
 
 -- those of the section at `start`
 abbrev pub conjunctsAt : List ℕ → ℕ → List ℕ
 conjunctsAt s start = recordsIn Conjuncts u16At s start
 
-pub conjunct-next : (s : List ℕ) (start : ℕ) (out X : List ℕ) (i v : ℕ) → i < u16At s start → i < length out → v ≡ u16At s (start + 2 + 2 * i) → X ≡ onto (take i (conjunctsAt s start)) out → set X i v ≡ onto (take (i + 1) (conjunctsAt s start)) out
+pub conjunct-next : (s : List ℕ) (start : ℕ) (out X : List ℕ) (i v : ℕ) → i < u16At s start → i < length out → v ≡ u16At s (start + countSize + numberSize * i) → X ≡ onto (take i (conjunctsAt s start)) out → set X i v ≡ onto (take (i + 1) (conjunctsAt s start)) out
 conjunct-next s start out X i v h k f e =
     let n = records-length Conjuncts u16At s start in
-    copied-next (conjunctsAt s start) out X i v (omega arith) k e (f ∙ sym (fixed-record-at Conjuncts u16At s start 2 conjuncts-fixed i 0 h))
+    copied-next (conjunctsAt s start) out X i v (omega arith) k e (f ∙ sym (fixed-record-at Conjuncts u16At s start numberSize conjuncts-fixed i 0 h))
 
 pub conjuncts-count : (s : List ℕ) (q : Sections) → u16At s (q .conjuncts) ≡ length (conjunctsOf s q)
 unfolding conjunctsOf
@@ -46,20 +43,18 @@ pub own-conjuncts : (s : List ℕ) (c : Checked) (q : Sections) → c ≡ check 
 unfolding conjunctsIn
 own-conjuncts s c q f g = ap (conjunctsOf s) (sym (accepted s q (sym f ∙ g) .1))
 
--- an accepted sheet has at most 64
-pub accepted-conjuncts : (s : List ℕ) (c : Checked) (q : Sections) → c ≡ check s → c ≡ Accepted q → length (conjunctsOf s q) ≤ 64
-unfolding sectionsIn countWithin countRefusal
+-- how many an accepted sheet has at most
+pub accepted-conjuncts : (s : List ℕ) (c : Checked) (q : Sections) → c ≡ check s → c ≡ Accepted q → length (conjunctsOf s q) ≤ conjunctLimit
+unfolding sectionsIn
 accepted-conjuncts s c q f g =
     let a = accepted s q (sym f ∙ g) in
-    let n : u16At s (q .conjuncts) ≡ u16At s (sectionAt s 11) = ap (λ (x : Sections). u16At s (x .conjuncts)) (sym (a .1)) ∙ noted s in
+    let n : u16At s (q .conjuncts) ≡ u16At s (sectionAt s conjunctsNumber) = ap (λ (x : Sections). u16At s (x .conjuncts)) (sym (a .1)) ∙ noted s in
     let k = conjuncts-count s q in
     let m = within s (a .0) in
     omega arith
   where
-    noted : (s : List ℕ) → u16At s (sectionsIn s .conjuncts) ≡ u16At s (sectionAt s 11)
+    noted : (s : List ℕ) → u16At s (sectionsIn s .conjuncts) ≡ u16At s (sectionAt s conjunctsNumber)
     noted s = refl
 
-    within : (s : List ℕ) → sheetRefusal s ≡ 0 → u16At s (sectionAt s 11) ≤ 64
-    within s kept =
-        let start : ℕ = sectionAt s 11 in
-        leb-true (u16At s start) 64 (ask-kept (countWithin (kindAt 11) (u16At s start)) 3 (omega arith) (else-first _ _ (else-second (whole 2 s start) _ (accepted-count s kept 11 (omega arith)))))
+    within : (s : List ℕ) → sheetRefusal s ≡ 0 → u16At s (sectionAt s conjunctsNumber) ≤ conjunctLimit
+    within s kept = accepted-within s kept conjunctsNumber (omega arith) .1

@@ -13,12 +13,11 @@ use Rattle.estimate.specs.declared.Estimate.{Estimate}
 use Rattle.records.specs.Classes.{ColumnEquivalenceClass}
 use Rattle.sheet.specs.Sheet.{Sheet}
 use Rattle.lawful.specs.Lawful.{Each, LawfulClass, LawfulSheet}
-use Rattle.lookup.specs.Lookup.{profileAndRows}
-use Rattle.lookup.specs.declared.profiles.ProfileAndRows.{ProfileAndRows}
-use Rattle.lookup.specs.declared.profiles.ProfileAndRows.the-variants.{Absent, Present}
+use Rattle.lookup.specs.Lookup.{ProfileAndRows, Absent, Present, profileAndRows}
 use Rattle.predicate_range.proofs.NumberRange.{either}
 use Rattle.predicate_range.proofs.FoundRange.{LawfulFound, profile-lawful}
-use Rattle.class_state.specs.State.{columnLimit, find, equivalent, noDistinct, rootDistinct, under, union, unknownDistinct, ownDistinct, columnDistinct, apart, unionEach, overwritten, withColumns, withClasses, fromProfiles, classAtRoot, returnedRoots, intoClasses}
+use Rattle.layout.specs.Places.{columnLimit}
+use Rattle.class_state.specs.State.{find, equivalent, noDistinct, rootDistinct, under, union, unknownDistinct, ownDistinct, columnDistinct, apart, unionEach, overwritten, withColumns, withClasses, fromProfiles, classAtRoot, returnedRoots, intoClasses}
 use Rattle.class_state.specs.declared.EquivalenceClassState.{EquivalenceClassState}
 use Rattle.join_range.specs.Range.{ClassInRange}
 use Rattle.join_range.proofs.EachLaws.{each-first, each-rest, each-map, set-at-each, tabulate-at-each}

@@ -19,14 +19,13 @@ use Rattle.records.specs.declared.columns.BaseColumn.{BaseColumn}
 use Rattle.records.specs.declared.columns.BaseColumn.the-variants.{Absent as NoBase, Present as Base}
 use Rattle.records.specs.declared.columns.ColumnProfile.{ColumnProfile}
 use Rattle.sheet.specs.Sheet.{Sheet}
-use Rattle.lawful.specs.Lawful.{LawfulProfile, LawfulSheet}
+use Rattle.record_rules.specs.Lawful.{LawfulColumn}
+use Rattle.lawful.specs.Lawful.{LawfulSheet}
 use Rattle.units.specs.Sizes.{UpTo, AtLeast}
 use Rattle.units.proofs.SizeLaws.{up-to-more, unit-up-to, zero-up-to, add-up-to, mul-up-to, div-up-to, clamped-up-to}
 use Rattle.units.proofs.FigureLaws.{figure-up-to, figure-at-least, figure-max, figure-max-one-order, share-unit}
 use Rattle.units.proofs.UnitOperations.{complement-unit, quotient-unit}
-use Rattle.lookup.specs.Lookup.{leftProfile, rightProfile, profileAndRows}
-use Rattle.lookup.specs.declared.profiles.ProfileAndRows.{ProfileAndRows}
-use Rattle.lookup.specs.declared.profiles.ProfileAndRows.the-variants.{Absent, Present}
+use Rattle.lookup.specs.Lookup.{ProfileAndRows, Absent, Present, leftProfile, rightProfile, profileAndRows}
 use Rattle.interval.specs.Intersection.{estimatedDistinctIntersection}
 use Rattle.interval.specs.declared.intersection.DistinctIntersection.{DistinctIntersection}
 use Rattle.fraction_range.specs.Distinct.{DistinctWithin}
@@ -37,13 +36,11 @@ use Rattle.predicate_range.proofs.ColumnRange.{fraction-unit}
 use Rattle.predicate_range.proofs.SketchRange.{NumberInUnit}
 use Rattle.sketch_join.specs.SketchJoin.{sketchJoinEstimate, sketchLeftMatchProbability}
 use Rattle.keys.specs.Keys.{isCatalog, hasRows, rowCount, singleColumnUnique, singleColumnForeignKey, profileHasCompleteBasePopulation, distinctByBase, effectiveJoinDistinct}
-use Rattle.edge.specs.Oriented.{orientedAs, orElseOriented, orientedJoinColumns, distinctOrOne, joinColumnDistinct, fractionOrOne, joinColumnNonNullFraction}
+use Rattle.edge.specs.Oriented.{OrientedColumns, NotOriented, Oriented, orientedAs, orElseOriented, orientedJoinColumns, distinctOrOne, joinColumnDistinct, fractionOrOne, joinColumnNonNullFraction}
 use Rattle.edge.specs.Inputs.{hasNull, nullPairSelectivity, nullMatchProbability, edgeInputs}
 use Rattle.edge.specs.Figures.{disjointEstimate, foreignKeyEstimate, equalNonNull, uniformPairSelectivity, uniformNonNullMatchProbability, orElseFloat, atLeastUniform, overlapEstimate}
 use Rattle.edge.specs.Edge.{unorientedEstimate, basesReferenced, isReference, unlessNullSafe, estimateBySketches, estimateByInputs, orientedEstimate, estimateAs, equalityEdgeEstimate}
 use Rattle.edge.specs.declared.EqualityEdge.{EqualityEdge}
-use Rattle.edge.specs.declared.OrientedColumns.{OrientedColumns}
-use Rattle.edge.specs.declared.OrientedColumns.the-variants.{Absent as NotOriented, Present as Oriented}
 use Rattle.edge.specs.declared.EdgeInputs.{EdgeInputs}
 use Rattle.join_range.specs.Range.{EdgeInRange, EdgeEstimateInRange}
 use Rattle.join_range.proofs.ClearLaws.{level-from-one}
@@ -66,7 +63,7 @@ fraction-in-unit n (Present profile rows) f = fraction-unit (profile .frequency 
 
 abbrev LawfulOriented : ℕ → OrientedColumns → Type 0
 LawfulOriented n NotOriented = Unit {0}
-LawfulOriented n (Oriented leftColumn rightColumn left right) = LawfulProfile n left × LawfulProfile n right
+LawfulOriented n (Oriented leftColumn rightColumn left right) = LawfulColumn n left × LawfulColumn n right
 
 as-lawful : (n leftColumn rightColumn : ℕ) (x y : ProfileAndRows) → LawfulFound n x → LawfulFound n y → LawfulOriented n (orientedAs leftColumn rightColumn x y)
 as-lawful n leftColumn rightColumn Absent y f g = tt
@@ -252,7 +249,7 @@ module _ (sheet : Sheet) (h : LawfulSheet sheet) where
   unfolding joinColumnNonNullFraction
   column-unit column = fraction-in-unit n (profileAndRows sheet column) (profile-lawful sheet h column)
 
-  unoriented-range : (first second : ℕ) → EdgeEstimateInRange (unorientedEstimate sheet first second)
+  unoriented-range : (first second : ℕ) → EdgeEstimateInRange (unorientedEstimate sheet (joinColumnDistinct sheet first) (joinColumnDistinct sheet second))
   unfolding unorientedEstimate
   unoriented-range first second =
       let a = joinColumnDistinct sheet first in
@@ -266,16 +263,16 @@ module _ (sheet : Sheet) (h : LawfulSheet sheet) where
         «left_coverage» = tt;
       }
 
-  by-base-figure : (rows : Estimate) (base : BaseColumn) (profile : ColumnProfile) → LawfulProfile n profile → LawfulFigure (distinctByBase sheet rows base profile)
+  by-base-figure : (rows : Estimate) (base : BaseColumn) (profile : ColumnProfile) → LawfulColumn n profile → LawfulFigure (distinctByBase sheet rows base profile)
   by-base-figure rows NoBase profile p = p .distinct .value
   by-base-figure rows (Base table column) profile p =
       either LawfulFigure (singleColumnUnique sheet table column && profileHasCompleteBasePopulation sheet rows table) (profile .frequency .value) (profile .distinct .value) (p .frequency .value) (p .distinct .value)
 
-  effective-figure : (rows : Estimate) (profile : ColumnProfile) → LawfulProfile n profile → LawfulFigure (effectiveJoinDistinct sheet rows profile)
+  effective-figure : (rows : Estimate) (profile : ColumnProfile) → LawfulColumn n profile → LawfulFigure (effectiveJoinDistinct sheet rows profile)
   unfolding effectiveJoinDistinct
   effective-figure rows profile p = by-base-figure rows (profile .base) profile p
 
-  inputs-range : (leftColumn rightColumn : ℕ) (left right : ColumnProfile) (nullSafe : Bool) (leftHint rightHint : Float) → LawfulProfile n left → LawfulProfile n right → LawfulFigure leftHint → LawfulFigure rightHint
+  inputs-range : (leftColumn rightColumn : ℕ) (left right : ColumnProfile) (nullSafe : Bool) (leftHint rightHint : Float) → LawfulColumn n left → LawfulColumn n right → LawfulFigure leftHint → LawfulFigure rightHint
       → InputsInRange (edgeInputs sheet leftColumn rightColumn left right nullSafe leftHint rightHint)
   unfolding edgeInputs
   inputs-range leftColumn rightColumn left right nullSafe leftHint rightHint p q f g =
@@ -294,7 +291,7 @@ module _ (sheet : Sheet) (h : LawfulSheet sheet) where
         nullMatch = null-match-unit (nullSafe && rightNull) x u;
       }
 
-  module _ (x : EdgeInputs) (r : InputsInRange x) (left right : ColumnProfile) (p : LawfulProfile n left) (q : LawfulProfile n right) where
+  module _ (x : EdgeInputs) (r : InputsInRange x) (left right : ColumnProfile) (p : LawfulColumn n left) (q : LawfulColumn n right) where
     sketches-range : (intersection : Float) → DistinctWithin (x .«left_distinct») (x .«right_distinct») intersection → EdgeEstimateInRange (estimateBySketches sheet x left right intersection)
     unfolding estimateBySketches
     sketches-range intersection w =
@@ -322,7 +319,7 @@ module _ (sheet : Sheet) (h : LawfulSheet sheet) where
         when P true x y f k = f tt
         when P false x y f k = k
 
-  oriented-range : (leftColumn rightColumn : ℕ) (left right : ColumnProfile) (nullSafe : Bool) (leftHint rightHint : Float) → LawfulProfile n left → LawfulProfile n right → LawfulFigure leftHint → LawfulFigure rightHint
+  oriented-range : (leftColumn rightColumn : ℕ) (left right : ColumnProfile) (nullSafe : Bool) (leftHint rightHint : Float) → LawfulColumn n left → LawfulColumn n right → LawfulFigure leftHint → LawfulFigure rightHint
       → EdgeEstimateInRange (orientedEstimate sheet leftColumn rightColumn left right nullSafe leftHint rightHint)
   unfolding orientedEstimate
   oriented-range leftColumn rightColumn left right nullSafe leftHint rightHint p q f g =

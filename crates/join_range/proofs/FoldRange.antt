@@ -7,7 +7,7 @@ use Rattle.sheet.specs.Sheet.{Sheet}
 use Rattle.lawful.specs.Lawful.{Each, LawfulSheet}
 use Rattle.predicate_range.proofs.NumberRange.{either}
 use Rattle.class_state.specs.State.{equivalent, fromProfiles}
-use Rattle.equality_pairs.specs.Pairs.{EqualityPair}
+use Rattle.equality_pairs.specs.declared.pairs.EqualityPair.{EqualityPair}
 use Rattle.equality_pairs.specs.NonNull.{nonNullMarks}
 use Rattle.edge.specs.Edge.{equalityEdgeEstimate}
 use Rattle.edge.specs.declared.EqualityEdge.{EqualityEdge}

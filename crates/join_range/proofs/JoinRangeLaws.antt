@@ -20,7 +20,8 @@ use Rattle.predicate_range.specs.Range.{BoundedInUnit}
 use Rattle.predicate_range.proofs.NumberRange.{either}
 use Rattle.predicate_range.proofs.LeafRange.{from-zero, unit-bounded}
 use Rattle.class_state.specs.State.{fromProfiles}
-use Rattle.equality_pairs.specs.Pairs.{EqualityPair, equalityPairs}
+use Rattle.equality_pairs.specs.Pairs.{equalityPairs}
+use Rattle.equality_pairs.specs.declared.pairs.EqualityPair.{EqualityPair}
 use Rattle.equality_pairs.specs.NonNull.{nonNullMarks, markedColumns}
 use Rattle.edge.specs.declared.EqualityEdge.{EqualityEdge}
 use Rattle.edge_fold.specs.Edges.{equalityEdges}

@@ -20,7 +20,8 @@ use Rattle.records.specs.declared.sketches.SketchItem.{SketchItem}
 use Rattle.records.specs.declared.columns.ColumnProfile.{ColumnProfile}
 use Rattle.records.specs.declared.columns.SketchNumber.{SketchNumber}
 use Rattle.records.specs.declared.columns.SketchNumber.the-variants.{Absent as NoSketch, Present as SketchNo}
-use Rattle.lawful.specs.Lawful.{Each, LawfulItem, LawfulSketch}
+use Rattle.sketch_rules.specs.Lawful.{LawfulItem}
+use Rattle.lawful.specs.Lawful.{Each, LawfulSketch}
 use Rattle.units.specs.Sizes.{UpTo, AtLeast}
 use Rattle.units.proofs.SizeLaws.{up-to-more, unit-up-to, zero-up-to, one-up-to, add-up-to, mul-up-to, div-up-to, max-at-least, count-up-to, count-at-least, at-least-positive, clamped-up-to}
 use Rattle.units.proofs.SpreadLaws.{sub-nonneg-spread, up-to-stepped, spread-max-zero}

@@ -17,6 +17,7 @@ use Rattle.sheet.proofs.AcceptedLaws.{accepted}
 use Rattle.join.specs.Join.{joinSelectivityFromConjuncts}
 use Rattle.answers.specs.Answers.{Result, refusal, bytes, answered, leaves, Comes, sheetResult}
 use Rattle.answers.specs.declared.Answer.the-variants.{Refused, Written}
+use Rattle.layout.specs.Places.{longestJoin}
 use Rattle.join_answer.specs.Join.{joinBytes, joinResult}
 use Rattle.join_parts.proofs.ConjunctLaws.{accepted-conjuncts}
 use Rattle.join_answer.proofs.BoundLaws.{join-within}
@@ -31,7 +32,7 @@ pub reply-fits : (s : List ℕ) → Small (joinResult s)
 unfolding joinResult sheetIn conjunctsIn
 reply-fits s bs e = go (check s) refl e
   where
-    within : (a b c : ℕ) → a ≡ b → a ≡ c → b ≤ 5124 → c ≤ 65536
+    within : (a b c : ℕ) → a ≡ b → a ≡ c → b ≤ longestJoin → c ≤ 65536
     within a b c e f h = omega arith
 
     go : (c : Checked) → check s ≡ c → sheetResult c (bytes (joinBytes (joinSelectivityFromConjuncts (sheetIn s) (conjunctsIn s)))) ≡ bytes bs → length bs ≤ 65536

@@ -1,20 +1,20 @@
 -- What a loop over a sheet's tables or keys finds. Assumes nothing.
 use Prim.Native.Nat.{ℕ, _+_, _*_, _≤_, _<_}
 use mathlib.Core.Path.{_≡_, refl, sym, ap, _∙_}
-use mathlib.Core.Bool.{Bool, true, false, _&&_, _||_, cond}
+use mathlib.Core.Bool.{Bool, true, false, not, _&&_, _||_, cond}
 use mathlib.Core.List.{List, _∷_}
-use borrow.Author.Tests.{eq-eqb, ne-eqb}
 use lib.Dec.{eqb}
 use Rattle.le.specs.Fields.{u16At}
+use Rattle.layout.specs.Places.{countSize, tableSize, keySize}
 use Rattle.records.specs.Catalog.{tableAt, keyAt}
 use Rattle.records.specs.declared.catalog.Key.{Key}
-use Rattle.records.specs.declared.catalog.RowCount.{RowCount}
 use Rattle.records.specs.declared.catalog.RowCount.the-variants.{Unknown}
-use Rattle.records.specs.declared.catalog.Table.{Table}
 use Rattle.sheet.specs.Sheet.{recordsIn}
 use Rattle.sheet.specs.declared.order.Kind.the-variants.{Tables, Keys}
 use Rattle.sheet.proofs.PlaceLaws.{tables-fixed, keys-fixed}
-use Rattle.keys.specs.Keys.{isListed, rowCount, isUnique, hasUnique, isForeign, hasForeign}
+use Rattle.scan.specs.Scan.{firstPlace}
+use Rattle.scan.proofs.ScanLaws.{numbered-is, present-is, absent-is}
+use Rattle.keys.specs.Keys.{tableOf, rowsOf, isListed, rowCount, isUnique, hasUnique, isForeign, hasForeign}
 use Rattle.keys.proofs.ScanLaws.{Rest, rest-first, rest-next, rest-found, rest-none}
 
 or-cond : (a b : Bool) → cond a true b ≡ (a || b)
@@ -29,65 +29,25 @@ and-then {b = b} e t f = f ∙ ap (λ (z : Bool). z && b) (sym t ∙ e)
 pub and-not : {a x : Bool} (b : Bool) → x ≡ a → x ≡ false → false ≡ (a && b)
 and-not b e t = ap (λ (z : Bool). z && b) (sym t ∙ e)
 
--- ---- whether a table is listed
+-- ---- the first table with a number
 
-module _ (s : List ℕ) (start table : ℕ) where
-  abbrev pub ListedRest : ℕ → Type 0
-  ListedRest i = Rest (isListed table) Tables tableAt s start i
-
-  abbrev isTable : Table → Bool
-  isTable t = eqb (t .table) table
-
-  abbrev yes : Table → Bool
-  yes t = true
-
-  listed-more : (t : Table) (ts : List Table) → cond (isTable t) true (isListed table ts) ≡ isListed table (t ∷ ts)
-  unfolding isListed
-  listed-more t ts = or-cond (isTable t) (isListed table ts)
-
-  pub listed-first : ListedRest 0
-  listed-first = rest-first (isListed table) Tables tableAt s start
-
-  pub listed-next : (i : ℕ) → i < u16At s start → (u16At s (start + 2 + 10 * i) ≡ table → ⊥) → ListedRest i → ListedRest (i + 1)
+module _ (s : List ℕ) (start table at : ℕ) (is : at ≡ firstPlace s start tableSize table) where
+  front : (s : List ℕ) (at : ℕ) → tableAt s at .table ≡ u16At s at
   unfolding tableAt
-  listed-next i h ne rest = rest-next (isListed table) Tables tableAt s start 10 tables-fixed isTable yes listed-more i h (ne-eqb _ _ ne) rest
+  front s at = refl
 
-  pub listed-found : (i : ℕ) → i < u16At s start → u16At s (start + 2 + 10 * i) ≡ table → ListedRest i → true ≡ isListed table (recordsIn Tables tableAt s start)
-  unfolding tableAt
-  listed-found i h e rest = rest-found (isListed table) Tables tableAt s start 10 tables-fixed isTable yes listed-more i h (eq-eqb _ _ e) rest
+  pub listed-is : not (eqb at 0) ≡ isListed table (recordsIn Tables tableAt s start)
+  listed-is = numbered-is Tables tableAt tableSize tables-fixed tableOf front s start table at is
 
-  pub listed-none : (i : ℕ) → u16At s start ≤ i → ListedRest i → false ≡ isListed table (recordsIn Tables tableAt s start)
-  unfolding isListed
-  listed-none i h rest = rest-none (isListed table) Tables tableAt s start i h rest
+  pub count-found : (at ≡ 0 → ⊥) → tableAt s at .rows ≡ rowCount table (recordsIn Tables tableAt s start)
+  count-found ne = present-is Tables tableAt tableSize tables-fixed tableOf front Unknown rowsOf s start table at is ne
 
-  -- ---- its row count
-
-  abbrev pub CountRest : ℕ → Type 0
-  CountRest i = Rest (rowCount table) Tables tableAt s start i
-
-  abbrev rowsOf : Table → RowCount
-  rowsOf t = t .rows
-
-  count-more : (t : Table) (ts : List Table) → cond (isTable t) (t .rows) (rowCount table ts) ≡ rowCount table (t ∷ ts)
-  unfolding rowCount
-  count-more t ts = refl
-
-  pub count-first : CountRest 0
-  count-first = rest-first (rowCount table) Tables tableAt s start
-
-  pub count-next : (i : ℕ) → i < u16At s start → (t : Table) → t ≡ tableAt s (start + 2 + 10 * i) → (t .table ≡ table → ⊥) → CountRest i → CountRest (i + 1)
-  count-next i h t is ne rest = rest-next (rowCount table) Tables tableAt s start 10 tables-fixed isTable rowsOf count-more i h (ap isTable (sym is) ∙ ne-eqb _ _ ne) rest
-
-  pub count-found : (i : ℕ) → i < u16At s start → (t : Table) → t ≡ tableAt s (start + 2 + 10 * i) → t .table ≡ table → CountRest i → t .rows ≡ rowCount table (recordsIn Tables tableAt s start)
-  count-found i h t is e rest = ap rowsOf is ∙ rest-found (rowCount table) Tables tableAt s start 10 tables-fixed isTable rowsOf count-more i h (ap isTable (sym is) ∙ eq-eqb _ _ e) rest
-
-  pub count-none : (i : ℕ) → u16At s start ≤ i → CountRest i → Unknown ≡ rowCount table (recordsIn Tables tableAt s start)
-  unfolding rowCount
-  count-none i h rest = rest-none (rowCount table) Tables tableAt s start i h rest
+  pub count-none : at ≡ 0 → Unknown ≡ rowCount table (recordsIn Tables tableAt s start)
+  count-none z = absent-is Tables tableAt tableSize tables-fixed tableOf front Unknown rowsOf s start table at is z
 
 -- ---- whether some key passes a test
 
-module _ (s : List ℕ) (start : ℕ) (g : List Key → Bool) (test : Key → Bool) (more : (k : Key) (ks : List Key) → (test k || g ks) ≡ g (k ∷ ks)) (i : ℕ) (h : i < u16At s start) (k : Key) (is : k ≡ keyAt s (start + 2 + 9 * i)) (b : Bool) (tested : b ≡ test k) (rest : Rest g Keys keyAt s start i) where
+module _ (s : List ℕ) (start : ℕ) (g : List Key → Bool) (test : Key → Bool) (more : (k : Key) (ks : List Key) → (test k || g ks) ≡ g (k ∷ ks)) (i : ℕ) (h : i < u16At s start) (k : Key) (is : k ≡ keyAt s (start + countSize + keySize * i)) (b : Bool) (tested : b ≡ test k) (rest : Rest g Keys keyAt s start i) where
   abbrev always : Key → Bool
   always x = true
 
@@ -95,10 +55,10 @@ module _ (s : List ℕ) (start : ℕ) (g : List Key → Bool) (test : Key → Bo
   one-more x xs = or-cond (test x) (g xs) ∙ more x xs
 
   key-next : b ≡ false → Rest g Keys keyAt s start (i + 1)
-  key-next e = rest-next g Keys keyAt s start 9 keys-fixed test always one-more i h (ap test (sym is) ∙ sym tested ∙ e) rest
+  key-next e = rest-next g Keys keyAt s start keySize keys-fixed test always one-more i h (ap test (sym is) ∙ sym tested ∙ e) rest
 
   key-found : b ≡ true → true ≡ g (recordsIn Keys keyAt s start)
-  key-found e = rest-found g Keys keyAt s start 9 keys-fixed test always one-more i h (ap test (sym is) ∙ sym tested ∙ e) rest
+  key-found e = rest-found g Keys keyAt s start keySize keys-fixed test always one-more i h (ap test (sym is) ∙ sym tested ∙ e) rest
 
 -- ---- a unique key
 
@@ -113,10 +73,10 @@ module _ (s : List ℕ) (start table column : ℕ) where
   pub unique-first : UniqueRest 0
   unique-first = rest-first (hasUnique table column) Keys keyAt s start
 
-  pub unique-next : (i : ℕ) → i < u16At s start → (k : Key) → k ≡ keyAt s (start + 2 + 9 * i) → (b : Bool) → b ≡ isUnique table column k → b ≡ false → UniqueRest i → UniqueRest (i + 1)
+  pub unique-next : (i : ℕ) → i < u16At s start → (k : Key) → k ≡ keyAt s (start + countSize + keySize * i) → (b : Bool) → b ≡ isUnique table column k → b ≡ false → UniqueRest i → UniqueRest (i + 1)
   unique-next i h k is b tested e rest = key-next s start (hasUnique table column) (isUnique table column) unique-more i h k is b tested rest e
 
-  pub unique-found : (i : ℕ) → i < u16At s start → (k : Key) → k ≡ keyAt s (start + 2 + 9 * i) → (b : Bool) → b ≡ isUnique table column k → b ≡ true → UniqueRest i → true ≡ hasUnique table column (recordsIn Keys keyAt s start)
+  pub unique-found : (i : ℕ) → i < u16At s start → (k : Key) → k ≡ keyAt s (start + countSize + keySize * i) → (b : Bool) → b ≡ isUnique table column k → b ≡ true → UniqueRest i → true ≡ hasUnique table column (recordsIn Keys keyAt s start)
   unique-found i h k is b tested e rest = key-found s start (hasUnique table column) (isUnique table column) unique-more i h k is b tested rest e
 
   pub unique-none : (i : ℕ) → u16At s start ≤ i → UniqueRest i → false ≡ hasUnique table column (recordsIn Keys keyAt s start)
@@ -142,10 +102,10 @@ module _ (s : List ℕ) (start table column referencedTable referencedColumn : �
   pub foreign-first : ForeignRest 0
   foreign-first = rest-first hasIt Keys keyAt s start
 
-  pub foreign-next : (i : ℕ) → i < u16At s start → (k : Key) → k ≡ keyAt s (start + 2 + 9 * i) → (b : Bool) → b ≡ isForeign table column referencedTable referencedColumn k → b ≡ false → ForeignRest i → ForeignRest (i + 1)
+  pub foreign-next : (i : ℕ) → i < u16At s start → (k : Key) → k ≡ keyAt s (start + countSize + keySize * i) → (b : Bool) → b ≡ isForeign table column referencedTable referencedColumn k → b ≡ false → ForeignRest i → ForeignRest (i + 1)
   foreign-next i h k is b tested e rest = key-next s start hasIt isIt foreign-more i h k is b tested rest e
 
-  pub foreign-found : (i : ℕ) → i < u16At s start → (k : Key) → k ≡ keyAt s (start + 2 + 9 * i) → (b : Bool) → b ≡ isForeign table column referencedTable referencedColumn k → b ≡ true → ForeignRest i → true ≡ hasForeign table column referencedTable referencedColumn (recordsIn Keys keyAt s start)
+  pub foreign-found : (i : ℕ) → i < u16At s start → (k : Key) → k ≡ keyAt s (start + countSize + keySize * i) → (b : Bool) → b ≡ isForeign table column referencedTable referencedColumn k → b ≡ true → ForeignRest i → true ≡ hasForeign table column referencedTable referencedColumn (recordsIn Keys keyAt s start)
   foreign-found i h k is b tested e rest = key-found s start hasIt isIt foreign-more i h k is b tested rest e
 
   pub foreign-none : (i : ℕ) → u16At s start ≤ i → ForeignRest i → false ≡ hasForeign table column referencedTable referencedColumn (recordsIn Keys keyAt s start)

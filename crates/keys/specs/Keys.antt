@@ -17,17 +17,22 @@ use Rattle.records.specs.declared.columns.BaseColumn.{BaseColumn}
 use Rattle.records.specs.declared.columns.BaseColumn.the-variants.{Absent, Present}
 use Rattle.records.specs.declared.columns.ColumnProfile.{ColumnProfile}
 use Rattle.sheet.specs.Sheet.{Sheet}
+use Rattle.scan.specs.Scan.{firstWith, isNumbered}
 
 -- ---- tables
 
-unfoldable pub isListed : ℕ → List Table → Bool
-isListed table [] = false
-isListed table (t ∷ ts) = eqb (t .table) table || isListed table ts
+abbrev pub tableOf : Table → ℕ
+tableOf t = t .table
+
+abbrev pub rowsOf : Table → RowCount
+rowsOf t = t .rows
+
+abbrev pub isListed : ℕ → List Table → Bool
+isListed table tables = isNumbered tableOf table tables
 
 -- unknown also where the table is not listed
-unfoldable pub rowCount : ℕ → List Table → RowCount
-rowCount table [] = Unknown
-rowCount table (t ∷ ts) = cond (eqb (t .table) table) (t .rows) (rowCount table ts)
+abbrev pub rowCount : ℕ → List Table → RowCount
+rowCount table tables = firstWith tableOf Unknown rowsOf table tables
 
 -- ---- keys
 
@@ -40,7 +45,7 @@ hasUnique table column [] = false
 hasUnique table column (k ∷ ks) = isUnique table column k || hasUnique table column ks
 
 unfoldable pub singleColumnUnique : Sheet → ℕ → ℕ → Bool
-unfolding isListed hasUnique
+unfolding firstWith hasUnique
 singleColumnUnique sheet table column = isListed table (sheet .tables) && hasUnique table column (sheet .keys)
 
 abbrev pub isForeign : ℕ → ℕ → ℕ → ℕ → Key → Bool
@@ -53,7 +58,7 @@ hasForeign table column referencedTable referencedColumn (k ∷ ks) = isForeign 
 
 -- both tables are listed
 unfoldable pub singleColumnForeignKey : Sheet → ℕ → ℕ → ℕ → ℕ → Bool
-unfolding isListed hasForeign
+unfolding firstWith hasForeign
 singleColumnForeignKey sheet table column referencedTable referencedColumn =
     isListed table (sheet .tables) && (isListed referencedTable (sheet .tables) && hasForeign table column referencedTable referencedColumn (sheet .keys))
 
@@ -72,15 +77,19 @@ hasRows rows (Known n) = eq rows (ofInt binary64 (pos n))
 
 -- a side's rows come from the catalog and are the table's
 unfoldable pub profileHasCompleteBasePopulation : Sheet → Estimate → ℕ → Bool
-unfolding rowCount
+unfolding firstWith
 profileHasCompleteBasePopulation sheet rows table = isCatalog (rows .source) && hasRows (rows .value) (rowCount table (sheet .tables))
 
 -- ---- the distinct values that a join reckons with
 
+-- a key of a table that a side has the whole of
+abbrev pub isCompleteKey : Sheet → Estimate → ℕ → ℕ → Bool
+isCompleteKey sheet rows table column = singleColumnUnique sheet table column && profileHasCompleteBasePopulation sheet rows table
+
 abbrev pub distinctByBase : Sheet → Estimate → BaseColumn → ColumnProfile → Float
 distinctByBase sheet rows Absent profile = profile .distinct .value
 distinctByBase sheet rows (Present table column) profile =
-    cond (singleColumnUnique sheet table column && profileHasCompleteBasePopulation sheet rows table) (profile .frequency .value) (profile .distinct .value)
+    cond (isCompleteKey sheet rows table column) (profile .frequency .value) (profile .distinct .value)
 
 unfoldable pub effectiveJoinDistinct : Sheet → Estimate → ColumnProfile → Float
 unfolding singleColumnUnique profileHasCompleteBasePopulation

@@ -1,13 +1,15 @@
 // What a sheet's tables and keys tell of columns: single_column_unique, single_column_foreign_key,
 // profile_has_complete_base_population and effective_join_distinct of the source's analysis.rs.
 ghost use mathlib.Core.Path.{_≡_};
-ghost use mathlib.Core.Bool.{_&&_};
 ghost use Rattle.records.specs.Catalog.{tableAt, keyAt};
 ghost use Rattle.sheet.specs.Sheet.{sheetOf, recordsIn};
 ghost use Rattle.sheet.specs.declared.order.Kind.the-variants.{Tables, Keys};
-ghost use Rattle.keys.specs.Keys.{isListed, rowCount, isUnique, hasUnique, singleColumnUnique, isForeign, hasForeign, singleColumnForeignKey, isCatalog, hasRows, profileHasCompleteBasePopulation, distinctByBase, effectiveJoinDistinct};
+ghost use Rattle.keys.specs.Keys.{isListed, rowCount, isUnique, hasUnique, singleColumnUnique, isForeign, hasForeign, singleColumnForeignKey, isCatalog, hasRows, profileHasCompleteBasePopulation, isCompleteKey, distinctByBase, effectiveJoinDistinct};
 use estimate::Estimate;
 use estimate::EstimateSource;
+use layout::COUNT_SIZE;
+use layout::KEY_SIZE;
+use layout::TABLE_SIZE;
 use le::reads::u16_at;
 use records::catalog::Key;
 use records::catalog::RowCount;
@@ -16,37 +18,25 @@ use records::catalog::table_at;
 use records::columns::BaseColumn;
 use records::columns::ColumnProfile;
 use rules::both;
+use scan::first_place;
 use sheet::Sections;
 
 // The tables' count stands at `start`.
 fn is_listed(s: &[u8], start: u16, table: u16) -> bool
     ensures { λ r. ⌜ r ≡ isListed table (recordsIn Tables tableAt (now (s .entry)) start) ⌝ }
 {
-    let n = u16_at(s, start as usize) as usize;
-    let mut i: usize = 0;
-    while i < n {
-        if u16_at(s, start as usize + 2 + 10 * i) == table {
-            return true;
-        }
-        i += 1;
-    }
-    false
+    first_place(s, start, TABLE_SIZE, table) != 0
 }
 
 // The tables' count stands at `start`.
 fn row_count(s: &[u8], start: u16, table: u16) -> RowCount
     ensures { λ r. ⌜ r ≡ rowCount table (recordsIn Tables tableAt (now (s .entry)) start) ⌝ }
 {
-    let n = u16_at(s, start as usize) as usize;
-    let mut i: usize = 0;
-    while i < n {
-        let found = table_at(s, start as usize + 2 + 10 * i);
-        if found.table == table {
-            return found.rows;
-        }
-        i += 1;
+    let at = first_place(s, start, TABLE_SIZE, table);
+    if at == 0 {
+        return RowCount::Unknown;
     }
-    RowCount::Unknown
+    table_at(s, at as usize).rows
 }
 
 fn is_unique(key: Key, table: u16, column: u16) -> bool
@@ -73,7 +63,11 @@ fn has_unique(s: &[u8], start: u16, table: u16, column: u16) -> bool
     let n = u16_at(s, start as usize) as usize;
     let mut i: usize = 0;
     while i < n {
-        if is_unique(key_at(s, start as usize + 2 + 9 * i), table, column) {
+        if is_unique(
+            key_at(s, start as usize + COUNT_SIZE + KEY_SIZE * i),
+            table,
+            column,
+        ) {
             return true;
         }
         i += 1;
@@ -130,7 +124,7 @@ fn has_foreign(
     let n = u16_at(s, start as usize) as usize;
     let mut i: usize = 0;
     while i < n {
-        let key = key_at(s, start as usize + 2 + 9 * i);
+        let key = key_at(s, start as usize + COUNT_SIZE + KEY_SIZE * i);
         if is_foreign(key, table, column, referenced_table, referenced_column) {
             return true;
         }
@@ -202,7 +196,7 @@ pub fn profile_has_complete_base_population(
 
 // Whether a column is a key of a table that a side has the whole of.
 fn is_complete_key(s: &[u8], q: Sections, rows: Estimate, table: u16, column: u16) -> bool
-    ensures { λ r. ⌜ r ≡ (singleColumnUnique (sheetOf (now (s .entry)) q) table column && profileHasCompleteBasePopulation (sheetOf (now (s .entry)) q) rows table) ⌝ }
+    ensures { λ r. ⌜ r ≡ isCompleteKey (sheetOf (now (s .entry)) q) rows table column ⌝ }
 {
     if single_column_unique(s, q, table, column) {
         return profile_has_complete_base_population(s, q, rows, table);

@@ -4,18 +4,18 @@ use mathlib.Core.Path.{_≡_, refl, subst}
 use mathlib.Core.Bool.{Bool, true, false, cond}
 use mathlib.Core.List.{List}
 use native.Mathlib.Omega.{arith}
-use lib.Dec.{leb, ltb, eqb}
+use lib.Dec.{ltb, eqb}
 use borrow.Author.Tests.{ltb-true, eqb-true}
 use Rattle.le.specs.Fields.{byteAt, u16At}
 use Rattle.le.proofs.FieldLaws.{Bytes}
-use Rattle.rules.specs.Rules.{ask}
-use Rattle.rules.proofs.RuleLaws.{ask-kept, else-first, else-second}
-use Rattle.scalar_bytes.specs.Reading.{scalarLawful, scalarAt}
+use Rattle.rules.proofs.RuleLaws.{ask-kept}
+use Rattle.layout.specs.Places.{expressionFirstOffset, expressionSecondOffset, expressionScalarOffset}
+use Rattle.layout.proofs.LayoutLaws.{record-kept}
+use Rattle.scalar_bytes.specs.Reading.{scalarAt}
 use Rattle.scalar_bytes.specs.Encoding.{lawfulScalar}
 use Rattle.scalar_bytes.specs.declared.reads.ScalarPlace.the-variants.{Literal as AtLiteral}
 use Rattle.records.specs.Expressions.{expressionAt}
-use Rattle.record_rules.specs.Fields.{whole}
-use Rattle.expression_rules.specs.Expressions.{lastOp, firstFieldRefusal, secondFieldRefusal, literalRefusal, expressionRefusal}
+use Rattle.expression_rules.specs.Expressions.{firstFieldRefusal, secondFieldRefusal, literalRefusal, expressionFields, expressionRefusal}
 use Rattle.expression_rules.proofs.RoomLaws.{column-ref-below}
 use Rattle.lawful.specs.Lawful.{LawfulExpression}
 use Rattle.lawful.proofs.ScalarLaws.{scalar-lawful}
@@ -31,29 +31,26 @@ by-test {A = A} P k n x y f g = go (eqb k n) (λ e. f (eqb-true k n e))
 -- expression i at `at`; the fields of kind k
 module _ (s : List ℕ) (run i at : ℕ) (kept : expressionRefusal s run i at ≡ 0) where
   abbrev a : ℕ
-  a = u16At s (at + 2)
+  a = u16At s (at + expressionFirstOffset)
 
   abbrev b : ℕ
-  b = u16At s (at + 4)
+  b = u16At s (at + expressionSecondOffset)
 
   record Fields (k : ℕ) : Type 0 where
     first : firstFieldRefusal k i run a ≡ 0
     second : secondFieldRefusal k i b ≡ 0
-    scalar : literalRefusal k s (at + 6) ≡ 0
+    scalar : literalRefusal k s (at + expressionScalarOffset) ≡ 0
 
   fields : (k : ℕ) → byteAt s at ≡ k → Fields k
   unfolding expressionRefusal
   fields k h =
-      let kind : ℕ = byteAt s at in
-      let op = else-second (ask (leb kind 6) 6) _ (else-second (whole 25 s at) _ kept) in
-      let one = else-second (ask (leb (byteAt s (at + 1)) (lastOp kind)) 6) _ op in
-      let two = else-second (firstFieldRefusal kind i run a) _ one in
-      let three = else-second (secondFieldRefusal kind i b) _ two in
-      subst Fields h record { first = else-first _ _ one; second = else-first _ _ two; scalar = three }
+      let kind = record-kept expressionFields (record { kind = byteAt s at; run = run; i = i }) s at kept in
+      let first = kind .1 .1 in
+      subst Fields h record { first = first .0; second = first .1 .0; scalar = first .1 .1 .0 }
 
-  literal : Bytes s → byteAt s at ≡ 0 → lawfulScalar (scalarAt s (at + 6)) ≡ true
+  literal : Bytes s → byteAt s at ≡ 0 → lawfulScalar (scalarAt s (at + expressionScalarOffset)) ≡ true
   unfolding literalRefusal
-  literal bytes h = scalar-lawful AtLiteral s (at + 6) refl bytes (ask-kept (scalarLawful AtLiteral s (at + 6)) 5 (omega arith) (fields 0 h .scalar))
+  literal bytes h = scalar-lawful AtLiteral s (at + expressionScalarOffset) refl bytes (fields 0 h .scalar)
 
   child : byteAt s at ≡ 2 → a < i
   unfolding firstFieldRefusal

@@ -2,7 +2,6 @@ pub mod EachLaws
 pub mod RowLaws
 pub mod ScalarLaws
 pub mod SketchLaws
-pub mod ColumnLaws
 pub mod ExpressionLaws
 pub mod OperandLaws
 pub mod ClassLaws

@@ -10,24 +10,25 @@ use lib.Ieee.{binary64}
 use lib.Ieee.Bits.{ofBits-fits}
 use Rattle.le.specs.Fields.{u64At}
 use Rattle.le.specs.Floats.{f64At}
-use Rattle.rules.proofs.RuleLaws.{ask-kept, else-second}
+use Rattle.rules.proofs.RuleLaws.{ask-kept}
+use Rattle.layout.specs.Places.{floatSize}
+use Rattle.layout.proofs.LayoutLaws.{record-kept}
 use Rattle.estimate.specs.Bytes.{estimateAt, figureLawful, LawfulFigure, LawfulEstimate}
 use Rattle.estimate.proofs.EstimateLaws.{accepted-lawful}
 use Rattle.records.specs.Settings.{settingsAt}
-use Rattle.record_rules.specs.Fields.{whole}
-use Rattle.record_rules.specs.Rows.{rowsRefusal, selectivityLawful, settingLawful, settingRefusal}
+use Rattle.record_rules.specs.Rows.{rowsFields, rowsRefusal, selectivityLawful, settingLawful, settingFields, settingRefusal}
 use Rattle.lawful.specs.Lawful.{LawfulSelectivity, LawfulSettings}
 
 pub rows-lawful : (s : List ℕ) (at : ℕ) → rowsRefusal s at ≡ 0 → LawfulEstimate (estimateAt s at)
 unfolding rowsRefusal
-rows-lawful s at e = accepted-lawful s at (else-second (whole 26 s at) _ e)
+rows-lawful s at e = accepted-lawful s at (record-kept rowsFields tt s at e .0)
 
 -- ---- settings
 
 module _ (s : List ℕ) where
   setting-kept : (i at : ℕ) (t : Bool) → settingRefusal s i at ≡ 0 → settingLawful i (f64At s at) ≡ t → T t
   unfolding settingRefusal
-  setting-kept i at t e q = subst T (sym (ask-kept (settingLawful i (f64At s at)) 4 (omega arith) (else-second (whole 8 s at) _ e)) ∙ q) tt
+  setting-kept i at t e q = subst T (sym (ask-kept (settingLawful i (f64At s at)) 4 (omega arith) (record-kept settingFields i s at e .0)) ∙ q) tt
 
   selectivity : (i at : ℕ) → ltb i 3 ≡ true → settingRefusal s i at ≡ 0 → LawfulSelectivity (f64At s at)
   selectivity i at l e = record { held = ofBits-fits binary64 (u64At s at); lawful = setting-kept i at (selectivityLawful (f64At s at)) e (rw l refl) }
@@ -36,7 +37,7 @@ module _ (s : List ℕ) where
   figure i at l e = record { held = ofBits-fits binary64 (u64At s at); lawful = setting-kept i at (figureLawful (f64At s at)) e (rw l refl) }
 
   -- five of them, the first at `at`
-  pub settings-lawful : (at : ℕ) → ((i : ℕ) → i < 5 → settingRefusal s i (at + 8 * i) ≡ 0) → LawfulSettings (settingsAt s at)
+  pub settings-lawful : (at : ℕ) → ((i : ℕ) → i < 5 → settingRefusal s i (at + floatSize * i) ≡ 0) → LawfulSettings (settingsAt s at)
   unfolding settingsAt
   settings-lawful at e = record {
     «like_selectivity» = selectivity 0 at refl (ap (settingRefusal s 0) (sym (add-zero at)) ∙ e 0 (omega arith));

@@ -10,8 +10,8 @@ use Rattle.scalar.specs.Types.{isNull}
 use Rattle.scalar.specs.declared.Scalar.{Scalar}
 use Rattle.scalar.specs.declared.Scalar.the-variants.{Null, Boolean, Int32, Int64, Float64, Decimal128, Date32, IntervalMonthDayNano, IntervalDayTime}
 use Rattle.scalar.specs.declared.Bound.the-variants.{Absent, Present}
-use Rattle.scalar_bytes.specs.Reading.{isBound, placeAllows, scalarLawful, scalarAt, boundAt}
-use Rattle.scalar_bytes.specs.Encoding.{lawfulScalar, lawfulBound}
+use Rattle.scalar_bytes.specs.Reading.{isBound, scalarRefusal, scalarAt, boundAt}
+use Rattle.scalar_bytes.specs.Encoding.{lawfulScalar, lawfulBound, placeAllows}
 use Rattle.scalar_bytes.specs.declared.reads.ScalarPlace.{ScalarPlace}
 use Rattle.scalar_bytes.specs.declared.reads.ScalarPlace.the-variants.{Sketch}
 use Rattle.scalar_bytes.proofs.EncodingLaws.{accepted-allowed, accepted-lawful}
@@ -22,12 +22,12 @@ unfolding placeAllows lawfulBound
 given place true x b a l = absurd (false≢true (sym b ∙ a))
 given place false x b a l = (a, l)
 
-both-lawful : (place : ScalarPlace) (s : List ℕ) (at : ℕ) → isBound place ≡ false → Bytes s → scalarLawful place s at ≡ true
+both-lawful : (place : ScalarPlace) (s : List ℕ) (at : ℕ) → isBound place ≡ false → Bytes s → scalarRefusal place s at ≡ 0
     → (placeAllows place (Present (scalarAt s at)) ≡ true) × (lawfulScalar (scalarAt s at) ≡ true)
 unfolding boundAt
 both-lawful place s at b k e = given place (eqb (byteAt s at) 255) (scalarAt s at) b (accepted-allowed place s at e) (accepted-lawful place s at k e)
 
-pub scalar-lawful : (place : ScalarPlace) (s : List ℕ) (at : ℕ) → isBound place ≡ false → Bytes s → scalarLawful place s at ≡ true → lawfulScalar (scalarAt s at) ≡ true
+pub scalar-lawful : (place : ScalarPlace) (s : List ℕ) (at : ℕ) → isBound place ≡ false → Bytes s → scalarRefusal place s at ≡ 0 → lawfulScalar (scalarAt s at) ≡ true
 scalar-lawful place s at b k e = both-lawful place s at b k e .1
 
 no-null : (x : Scalar) → placeAllows Sketch (Present x) ≡ true → isNull x ≡ false
@@ -42,5 +42,5 @@ no-null (Date32 x) e = refl
 no-null (IntervalMonthDayNano months days nanoseconds) e = refl
 no-null (IntervalDayTime days milliseconds) e = refl
 
-pub sketch-no-null : (s : List ℕ) (at : ℕ) → Bytes s → scalarLawful Sketch s at ≡ true → isNull (scalarAt s at) ≡ false
+pub sketch-no-null : (s : List ℕ) (at : ℕ) → Bytes s → scalarRefusal Sketch s at ≡ 0 → isNull (scalarAt s at) ≡ false
 sketch-no-null s at k e = no-null (scalarAt s at) (both-lawful Sketch s at refl k e .0)

@@ -1,26 +1,26 @@
 -- What holds of the records of every accepted sheet, as values (document 01, "The join sheet"). Definitions only.
-use Prim.Native.Nat.{ℕ, _+_, _^_, _≤_, _<_}
+use Prim.Native.Nat.{ℕ, _+_, _≤_, _<_}
 use mathlib.Core.Path.{_≡_}
-use mathlib.Core.Bool.{true, false}
+use mathlib.Core.Bool.{true}
 use mathlib.Core.List.{List, List·Memᴰ}
 use lib.Dec.{T}
 use lib.ListN.{length, getD}
 use lib.Ieee.{Float, binary64, fits}
-use Rattle.scalar.specs.Types.{isNull}
-use Rattle.scalar_bytes.specs.Encoding.{lawfulScalar, lawfulBound}
+use Rattle.layout.specs.Places.{columnLimit, countLimit, conjunctLimit, itemLimit, classLeast, classMost}
+use Rattle.scalar_bytes.specs.Encoding.{lawfulScalar}
 use Rattle.estimate.specs.Bytes.{LawfulFigure, LawfulEstimate}
 use Rattle.records.specs.Sketches.{Sketch}
 use Rattle.records.specs.Classes.{ColumnEquivalenceClass}
 use Rattle.records.specs.declared.settings.CardinalityEstimationConfig.{CardinalityEstimationConfig}
-use Rattle.records.specs.declared.sketches.SketchItem.{SketchItem}
-use Rattle.records.specs.declared.columns.SketchNumber.{SketchNumber}
-use Rattle.records.specs.declared.columns.SketchNumber.the-variants.{Absent, Present}
-use Rattle.records.specs.declared.columns.ColumnProfile.{ColumnProfile}
 use Rattle.records.specs.declared.expressions.NaryOp.{NaryOp}
 use Rattle.records.specs.declared.expressions.Expression.{Expression}
 use Rattle.records.specs.declared.expressions.Expression.the-variants.{Literal, ColumnRef, Unary, Binary, Nary, Like, Other}
 use Rattle.record_rules.specs.Rows.{selectivityLawful}
+use Rattle.record_rules.specs.Lawful.{LawfulColumn}
+use Rattle.sketch_rules.specs.Lawful.{LawfulItem}
+use Rattle.sheet.specs.Table.{sectionOf}
 use Rattle.sheet.specs.Sheet.{Sheet}
+use Rattle.sheet.specs.declared.order.Kind.the-variants.{Expressions, Operands}
 
 -- each member of a list
 abbrev pub Each : {A : Type 0} → (A → Type 0) → List A → Type 0
@@ -42,39 +42,17 @@ pub record LawfulSettings (x : CardinalityEstimationConfig) : Type 0 where
 
 -- ---- sketches
 
-pub record LawfulItem (x : SketchItem) : Type 0 where
-  pub value : lawfulScalar (x .value) ≡ true
-  pub present : isNull (x .value) ≡ false
-  pub lower : x .lower ≤ 2 ^ 53
-  pub error : x .error ≤ 2 ^ 53
-
 pub record LawfulSketch (x : Sketch) : Type 0 where
-  pub population : x .population ≤ 2 ^ 53
+  pub population : x .population ≤ countLimit
   pub items : Each LawfulItem (x .items)
-  pub count : length (x .items) ≤ 64
-
--- ---- columns
-
--- none, or one of n sketches
-abbrev pub LawfulSketchNumber : ℕ → SketchNumber → Type 0
-LawfulSketchNumber n Absent = Unit {0}
-LawfulSketchNumber n (Present i) = i < n
-
--- on a sheet of n sketches
-pub record LawfulProfile (n : ℕ) (x : ColumnProfile) : Type 0 where
-  pub column : x .column < 128
-  pub lower : lawfulBound (x .lower) ≡ true
-  pub upper : lawfulBound (x .upper) ≡ true
-  pub frequency : LawfulEstimate (x .frequency)
-  pub distinct : LawfulEstimate (x .distinct)
-  pub sketch : LawfulSketchNumber n (x .sketch)
+  pub count : length (x .items) ≤ itemLimit
 
 -- ---- expressions
 
 -- expression e: its own scalar or column, and children below it; of an n-ary one nothing, for its operands stand apart
 abbrev pub LawfulExpression : ℕ → Expression → Type 0
 LawfulExpression e (Literal x) = lawfulScalar x ≡ true
-LawfulExpression e (ColumnRef column) = column < 128
+LawfulExpression e (ColumnRef column) = column < columnLimit
 LawfulExpression e (Unary op expr) = expr < e
 LawfulExpression e (Binary op left right) = (left < e) × (right < e)
 LawfulExpression e (Nary op first count) = Unit {0}
@@ -90,9 +68,9 @@ pub record LawfulRun (operands : List ℕ) (e first count : ℕ) : Type 0 where
 
 pub record LawfulClass (x : ColumnEquivalenceClass) : Type 0 where
   pub distinct : LawfulEstimate (x .distinct)
-  pub columns : Each (λ (c : ℕ). c < 128) (x .columns)
-  pub least : 2 ≤ length (x .columns)
-  pub most : length (x .columns) ≤ 128
+  pub columns : Each (λ (c : ℕ). c < columnLimit) (x .columns)
+  pub least : classLeast ≤ length (x .columns)
+  pub most : length (x .columns) ≤ classMost
 
 -- ---- the sheet
 
@@ -101,16 +79,16 @@ pub record LawfulSheet (x : Sheet) : Type 0 where
   pub rightRows : LawfulEstimate (x .rightRows)
   pub settings : LawfulSettings (x .settings)
   pub sketches : Each LawfulSketch (x .sketches)
-  pub leftColumns : Each (LawfulProfile (length (x .sketches))) (x .leftColumns)
-  pub rightColumns : Each (LawfulProfile (length (x .sketches))) (x .rightColumns)
+  pub leftColumns : Each (LawfulColumn (length (x .sketches))) (x .leftColumns)
+  pub rightColumns : Each (LawfulColumn (length (x .sketches))) (x .rightColumns)
   pub leftClasses : Each LawfulClass (x .leftClasses)
   pub rightClasses : Each LawfulClass (x .rightClasses)
-  pub expressionCount : length (x .expressions) ≤ 256
+  pub expressionCount : length (x .expressions) ≤ sectionOf Expressions .most
   pub expressions : (e : ℕ) → e < length (x .expressions) → LawfulExpression e (getD (x .expressions) e Other)
-  pub operandCount : length (x .operands) ≤ 512
+  pub operandCount : length (x .operands) ≤ sectionOf Operands .most
   pub operands : (e : ℕ) → e < length (x .expressions) → (op : NaryOp) (first count : ℕ) → getD (x .expressions) e Other ≡ Nary op first count → LawfulRun (x .operands) e first count
 
 -- the conjuncts of a join on it
 pub record LawfulConjuncts (x : Sheet) (conjuncts : List ℕ) : Type 0 where
-  pub count : length conjuncts ≤ 64
+  pub count : length conjuncts ≤ conjunctLimit
   pub named : Each (λ (e : ℕ). e < length (x .expressions)) conjuncts

@@ -1,6 +1,7 @@
 // Fields read at any place.
 ghost use mathlib.Core.Path.{_≡_};
 ghost use Prim.Native.Nat.{_+_, _-_, _≤_, _<_, _^_};
+ghost use lib.Dec.{leb};
 ghost use lib.ListN.{length};
 ghost use Rattle.le.specs.Fields.{byteAt, fieldAt, u16At, u32At, u64At};
 
@@ -79,13 +80,23 @@ pub fn word_at(s: &[u8], at: usize) -> u64
     quad_at(s, at) + quad_at(s, at + 4) * 0x1_0000_0000
 }
 
+// Whether two bytes stand from the place on.
+fn has_pair(s: &[u8], at: usize) -> bool
+    ensures { λ r. ⌜ r ≡ leb (at + 2) (length (now (s .entry))) ⌝ }
+{
+    if 2 <= s.len() {
+        return at <= s.len() - 2;
+    }
+    false
+}
+
 pub fn u16_at(s: &[u8], at: usize) -> u16
     ensures { λ r. ⌜ r ≡ u16At (now (s .entry)) at ⌝ }
 {
-    if 2 <= left(s, at) {
+    if has_pair(s, at) {
         return pair_at(s, at) as u16;
     }
-    field_at(s, at, 2) as u16
+    byte_at(s, at) as u16
 }
 
 pub fn u32_at(s: &[u8], at: usize) -> u32

@@ -1,2 +1,3 @@
 pub mod LookupLaws
 pub mod RecursionLaws
+pub mod NotedLaws

@@ -5,6 +5,9 @@ ghost use lib.ListN.{length};
 ghost use Rattle.expression_rules.specs.Operands.{expressionPlace};
 ghost use Rattle.sheet.specs.Sheet.{sheetOf};
 ghost use Rattle.lookup.specs.Lookup.{expressionOf, operandIn, expressionKind};
+use layout::COUNT_SIZE;
+use layout::EXPRESSION_SIZE;
+use layout::NUMBER_SIZE;
 use le::reads::byte_at;
 use le::reads::u16_at;
 use records::expressions::Expression;
@@ -21,7 +24,7 @@ pub fn expression_of(s: &[u8], q: Sections, e: u16) -> Expression
     ensures { λ r. ⌜ r ≡ expressionOf (sheetOf (now (s .entry)) q) e ⌝ }
 {
     if e < expression_count(s, q) {
-        return expression_at(s, q.expressions as usize + 2 + 25 * e as usize);
+        return expression_at(s, expression_place(q, e));
     }
     Expression::Other
 }
@@ -30,7 +33,7 @@ pub fn expression_of(s: &[u8], q: Sections, e: u16) -> Expression
 pub fn expression_place(q: Sections, e: u16) -> usize
     ensures { λ r. ⌜ (r ≡ expressionPlace (q .expressions) e) × (r < 2 ^ 40) ⌝ }
 {
-    q.expressions as usize + 2 + 25 * e as usize
+    q.expressions as usize + COUNT_SIZE + EXPRESSION_SIZE * e as usize
 }
 
 // The kind of an expression, as its byte tells it.
@@ -62,5 +65,5 @@ pub fn operand_in(s: &[u8], q: Sections, i: usize) -> u16
     requires { ⌜ i < 2 ^ 32 ⌝ }
     ensures { λ r. ⌜ r ≡ operandIn (now (s .entry)) (q .operands) i ⌝ }
 {
-    u16_at(s, q.operands as usize + 2 + 2 * i)
+    u16_at(s, q.operands as usize + COUNT_SIZE + NUMBER_SIZE * i)
 }

@@ -3,21 +3,19 @@ ghost use mathlib.Core.Path.{_≡_};
 ghost use Prim.Native.Nat.{_<_, _^_};
 ghost use Rattle.records.specs.Columns.{columnProfileAt};
 ghost use Rattle.sheet.specs.Sheet.{sheetOf};
-ghost use Rattle.lookup.specs.Lookup.{leftProfile, rightProfile, profileAndRows, placedProfile, placeIn, profilePlace};
+ghost use Rattle.lookup.specs.Lookup.{columnPlace, profilePlace};
+use layout::COLUMN_DISTINCT_OFFSET;
+use layout::COLUMN_FREQUENCY_OFFSET;
+use layout::COLUMN_SIZE;
+use layout::COUNT_SIZE;
+use layout::ESTIMATE_SIZE;
+use layout::ESTIMATE_VALUE_OFFSET;
 use le::floats::f64_at;
-use le::reads::u16_at;
-use records::columns::ColumnProfile;
-use records::columns::column_profile_at;
+use scan::first_place;
 use sheet::Sections;
 
-// The profile of a column, and the rows of the side that it stands on.
-pub enum ProfileAndRows {
-    Absent,
-    Present { profile: ColumnProfile, rows: f64 },
-}
-
-// The same by where the profile stands in the sheet, for those who read only some of its fields: 0
-// where there is none.
+// Where the profile of a column stands in the sheet, 0 where there is none, and the rows of the side
+// that it stands on.
 pub struct ProfilePlace {
     pub at: usize,
     pub rows: f64,
@@ -26,36 +24,28 @@ pub struct ProfilePlace {
 pub fn left_rows(s: &[u8], q: Sections) -> f64
     ensures { λ r. ⌜ r ≡ sheetOf (now (s .entry)) q .leftRows .value ⌝ }
 {
-    f64_at(s, q.rows as usize + 4)
+    f64_at(s, q.rows as usize + COUNT_SIZE + ESTIMATE_VALUE_OFFSET)
 }
 
 pub fn right_rows(s: &[u8], q: Sections) -> f64
     ensures { λ r. ⌜ r ≡ sheetOf (now (s .entry)) q .rightRows .value ⌝ }
 {
-    f64_at(s, q.rows as usize + 30)
+    let right = q.rows as usize + COUNT_SIZE + ESTIMATE_SIZE;
+    f64_at(s, right + ESTIMATE_VALUE_OFFSET)
 }
 
 // Where the first profile of a column stands, 0 where there is none. The columns' count stands at
 // `start`.
-fn place_in(s: &[u8], start: u16, column: u16) -> usize
-    ensures { λ r. ⌜ (r ≡ placeIn (now (s .entry)) start column) × (r < 2 ^ 40) ⌝ }
+fn column_place(s: &[u8], start: u16, column: u16) -> usize
+    ensures { λ r. ⌜ (r ≡ columnPlace (now (s .entry)) start column) × (r < 2 ^ 40) ⌝ }
 {
-    let n = u16_at(s, start as usize) as usize;
-    let mut i: usize = 0;
-    while i < n {
-        let at = start as usize + 2 + 98 * i;
-        if u16_at(s, at) == column {
-            return at;
-        }
-        i += 1;
-    }
-    0
+    first_place(s, start, COLUMN_SIZE, column) as usize
 }
 
 pub fn profile_place(s: &[u8], q: Sections, column: u16) -> ProfilePlace
     ensures { λ r. ⌜ (r ≡ profilePlace (now (s .entry)) q column) × (r .at < 2 ^ 40) ⌝ }
 {
-    let left = place_in(s, q.left_columns, column);
+    let left = column_place(s, q.left_columns, column);
     if left != 0 {
         return ProfilePlace {
             at: left,
@@ -63,7 +53,7 @@ pub fn profile_place(s: &[u8], q: Sections, column: u16) -> ProfilePlace
         };
     }
     ProfilePlace {
-        at: place_in(s, q.right_columns, column),
+        at: column_place(s, q.right_columns, column),
         rows: right_rows(s, q),
     }
 }
@@ -73,45 +63,12 @@ pub fn frequency_at(s: &[u8], at: usize) -> f64
     requires { ⌜ at < 2 ^ 40 ⌝ }
     ensures { λ r. ⌜ r ≡ columnProfileAt (now (s .entry)) at .frequency .value ⌝ }
 {
-    f64_at(s, at + 44 + 2)
+    f64_at(s, at + COLUMN_FREQUENCY_OFFSET + ESTIMATE_VALUE_OFFSET)
 }
 
 pub fn distinct_at(s: &[u8], at: usize) -> f64
     requires { ⌜ at < 2 ^ 40 ⌝ }
     ensures { λ r. ⌜ r ≡ columnProfileAt (now (s .entry)) at .distinct .value ⌝ }
 {
-    f64_at(s, at + 70 + 2)
-}
-
-// All of it.
-fn profile_at(s: &[u8], at: usize, rows: f64) -> ProfileAndRows
-    requires { ⌜ at < 2 ^ 40 ⌝ }
-    ensures { λ r. ⌜ r ≡ placedProfile (now (s .entry)) at rows ⌝ }
-{
-    if at == 0 {
-        return ProfileAndRows::Absent;
-    }
-    ProfileAndRows::Present {
-        profile: column_profile_at(s, at),
-        rows,
-    }
-}
-
-pub fn left_profile(s: &[u8], q: Sections, column: u16) -> ProfileAndRows
-    ensures { λ r. ⌜ r ≡ leftProfile (sheetOf (now (s .entry)) q) column ⌝ }
-{
-    profile_at(s, place_in(s, q.left_columns, column), left_rows(s, q))
-}
-
-pub fn right_profile(s: &[u8], q: Sections, column: u16) -> ProfileAndRows
-    ensures { λ r. ⌜ r ≡ rightProfile (sheetOf (now (s .entry)) q) column ⌝ }
-{
-    profile_at(s, place_in(s, q.right_columns, column), right_rows(s, q))
-}
-
-pub fn profile_and_rows(s: &[u8], q: Sections, column: u16) -> ProfileAndRows
-    ensures { λ r. ⌜ r ≡ profileAndRows (sheetOf (now (s .entry)) q) column ⌝ }
-{
-    let place = profile_place(s, q, column);
-    profile_at(s, place.at, place.rows)
+    f64_at(s, at + COLUMN_DISTINCT_OFFSET + ESTIMATE_VALUE_OFFSET)
 }

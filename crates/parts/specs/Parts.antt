@@ -4,6 +4,7 @@ use mathlib.Core.Bool.{Bool, true, false, cond, _&&_}
 use mathlib.Core.List.{List}
 use lib.Dec.{eqb}
 use Rattle.le.specs.Fields.{u16At}
+use Rattle.layout.specs.Places.{expressionFirstOffset, expressionScalarOffset}
 use Rattle.scalar.specs.declared.Scalar.{Scalar}
 use Rattle.scalar_bytes.specs.Reading.{scalarAt}
 use Rattle.records.specs.declared.expressions.BinaryOp.{BinaryOp}
@@ -87,7 +88,7 @@ placedLiteral s p = cond (eqb (p .at) 0) NoPair (Pair (p .column) (scalarAt s (p
 unfoldable pub columnBesidePlace : List ℕ → Sections → BinaryOp → ℕ → ℕ → PlacedLiteral
 columnBesidePlace s q op column literal =
     cond (eqb (expressionKind s q column) 1 && eqb (expressionKind s q literal) 0)
-    (record { column = u16At s (expressionPlace (q .expressions) column + 2); at = expressionPlace (q .expressions) literal + 6; op = op })
+    (record { column = u16At s (expressionPlace (q .expressions) column + expressionFirstOffset); at = expressionPlace (q .expressions) literal + expressionScalarOffset; op = op })
     (record { column = 0; at = 0; op = op })
 
 -- a literal on the left leaves only the right side for the column

@@ -6,6 +6,9 @@ ghost use Rattle.lookup.specs.Lookup.{expressionOf};
 ghost use Rattle.parts.specs.Parts.{isEquality, isNullSafe, bothColumns, columnEqualityFromParts, columnEquality};
 use crate::OptionColumn;
 use crate::column_ref;
+use layout::EXPRESSION_FIRST_OFFSET;
+use layout::EXPRESSION_OP_OFFSET;
+use layout::EXPRESSION_SECOND_OFFSET;
 use le::reads::byte_at;
 use le::reads::u16_at;
 use lookup::numbers::expression_kind;
@@ -89,8 +92,10 @@ pub fn column_equality(s: &[u8], q: Sections, e: u16) -> ColumnEquality
 {
     if expression_kind(s, q, e) == 3 {
         let at = expression_place(q, e);
-        let op = binary_op(byte_at(s, at + 1));
-        return column_equality_from_parts(s, q, op, u16_at(s, at + 2), u16_at(s, at + 4));
+        let op = binary_op(byte_at(s, at + EXPRESSION_OP_OFFSET));
+        let left = u16_at(s, at + EXPRESSION_FIRST_OFFSET);
+        let right = u16_at(s, at + EXPRESSION_SECOND_OFFSET);
+        return column_equality_from_parts(s, q, op, left, right);
     }
     ColumnEquality::Absent
 }

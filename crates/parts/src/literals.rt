@@ -1,8 +1,11 @@
 // column_literal of the source's analysis.rs: a column beside a literal.
 ghost use mathlib.Core.Path.{_≡_};
 ghost use Prim.Native.Nat.{_+_, _<_, _^_};
+ghost use Rattle.layout.specs.Places.{expressionScalarOffset};
 ghost use Rattle.expression_rules.specs.Operands.{expressionPlace};
 ghost use Rattle.parts.specs.Parts.{reversed, columnBesidePlace, columnLiteralPlace};
+use layout::EXPRESSION_FIRST_OFFSET;
+use layout::EXPRESSION_SCALAR_OFFSET;
 use le::reads::u16_at;
 use lookup::numbers::expression_kind;
 use lookup::numbers::expression_place;
@@ -38,9 +41,9 @@ fn reversed(op: BinaryOp) -> BinaryOp
 
 // Where the scalar of a literal stands.
 fn literal_place(q: Sections, e: u16) -> usize
-    ensures { λ r. ⌜ (r ≡ expressionPlace (q .expressions) e + 6) × (r < 2 ^ 40) ⌝ }
+    ensures { λ r. ⌜ (r ≡ expressionPlace (q .expressions) e + expressionScalarOffset) × (r < 2 ^ 40) ⌝ }
 {
-    expression_place(q, e) + 6
+    expression_place(q, e) + EXPRESSION_SCALAR_OFFSET
 }
 
 // Of two expressions by their numbers.
@@ -62,7 +65,7 @@ fn column_beside(s: &[u8], q: Sections, op: BinaryOp, column: u16, literal: u16)
         };
     }
     PlacedLiteral {
-        column: u16_at(s, expression_place(q, column) + 2),
+        column: u16_at(s, expression_place(q, column) + EXPRESSION_FIRST_OFFSET),
         at: literal_place(q, literal),
         op,
     }

@@ -1,5 +1,5 @@
 -- What the functions for programs in other languages answer, in terms of the crates behind them. Definitions only.
-use Prim.Native.Nat.{ℕ}
+use Prim.Native.Nat.{ℕ, _*_}
 use mathlib.Core.Bool.{Bool, true, false, cond}
 use mathlib.Core.List.{List}
 use lib.Dec.{leb}
@@ -7,6 +7,7 @@ use lib.ListN.{length}
 use lib.Ieee.{Float}
 use Rattle.float.specs.Order.{f64Zero}
 use Rattle.le.specs.Fields.{onto}
+use Rattle.layout.specs.Places.{estimateSize, scalarSize, columnSize}
 use Rattle.scalar.specs.Order.{scalarOrder}
 use Rattle.scalar.specs.Number.{scalarToF64}
 use Rattle.scalar.specs.declared.order.ScalarOrdering.{ScalarOrdering}
@@ -36,7 +37,7 @@ refusalNumber (Accepted q) = 0
 unfoldable pub piecesCheck : List ℕ → ℕ
 piecesCheck sheet = refusalNumber (check sheet)
 
--- ---- scalars, each the first 19 bytes of a list
+-- ---- scalars, each in front of a list
 
 abbrev pub orderNumber : ScalarOrdering → ℕ
 orderNumber Unordered = 0
@@ -55,15 +56,15 @@ piecesNumber value = scalarToF64 (scalarAt value 0) .number
 
 -- how many bytes are written: a scalar's, where there is room
 unfoldable pub scalarWritten : List ℕ → ℕ
-scalarWritten out = cond (leb 19 (length out)) 19 0
+scalarWritten out = cond (leb scalarSize (length out)) scalarSize 0
 
 -- the scalar's bytes in front, where there is room
 unfoldable pub withScalar : Scalar → List ℕ → List ℕ
-withScalar x out = cond (leb 19 (length out)) (onto (scalarBytes x) out) out
+withScalar x out = cond (leb scalarSize (length out)) (onto (scalarBytes x) out) out
 
 -- the fraction of four scalars, one behind the other
 unfoldable pub piecesFraction : List ℕ → IntervalFraction
-piecesFraction scalars = scalarIntervalFraction (scalarAt scalars 0) (scalarAt scalars 19) (scalarAt scalars 38) (scalarAt scalars 57)
+piecesFraction scalars = scalarIntervalFraction (scalarAt scalars 0) (scalarAt scalars scalarSize) (scalarAt scalars (scalarSize * 2)) (scalarAt scalars (scalarSize * 3))
 
 abbrev pub isFraction : IntervalFraction → Bool
 isFraction NoFraction = false
@@ -77,9 +78,9 @@ fractionNumber (Fraction x) = x
 -- ---- two columns' profiles, one behind the other
 
 unfoldable pub piecesIntersection : List ℕ → Float → Float → DistinctIntersection
-piecesIntersection columns leftDistinct rightDistinct = estimatedDistinctIntersection (columnProfileAt columns 0) (columnProfileAt columns 98) leftDistinct rightDistinct
+piecesIntersection columns leftDistinct rightDistinct = estimatedDistinctIntersection (columnProfileAt columns 0) (columnProfileAt columns columnSize) leftDistinct rightDistinct
 
--- ---- estimates, each the first 26 bytes of a list
+-- ---- estimates, each in front of a list
 
 unfoldable pub piecesMaxByValue : List ℕ → List ℕ → Estimate
 piecesMaxByValue left right = maxByValue (estimateAt left 0) (estimateAt right 0)
@@ -92,8 +93,8 @@ piecesDerived value = let e = estimateAt value 0 in derived (e .value) (lowerBou
 
 -- how many bytes are written: an estimate's, where there is room
 unfoldable pub written : List ℕ → ℕ
-written out = cond (leb 26 (length out)) 26 0
+written out = cond (leb estimateSize (length out)) estimateSize 0
 
 -- the estimate's bytes in front, where there is room
 unfoldable pub withEstimate : Estimate → List ℕ → List ℕ
-withEstimate e out = cond (leb 26 (length out)) (onto (estimateBytes e) out) out
+withEstimate e out = cond (leb estimateSize (length out)) (onto (estimateBytes e) out) out

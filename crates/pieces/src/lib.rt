@@ -15,6 +15,9 @@ use interval::fraction::IntervalFraction;
 use interval::fraction::scalar_interval_fraction;
 use interval::intersection::DistinctIntersection;
 use interval::intersection::estimated_distinct_intersection;
+use layout::COLUMN_SIZE;
+use layout::ESTIMATE_SIZE;
+use layout::SCALAR_SIZE;
 use range::numbers::number_at;
 use records::columns::column_profile_at;
 use scalar::order::ScalarOrdering;
@@ -86,21 +89,28 @@ pub extern "C" fn pieces_from_scalar(value: &[u8], out: &mut [u8]) -> u64
     ensures { λ r. ⌜ r ≡ scalarWritten (now (out .entry)) ⌝ }
     ensures { λ _. ⌜ now (out .exit) ≡ withScalar (scalarAt (now (value .entry)) 0) (now (out .entry)) ⌝ }
 {
-    if out.len() < 19 {
+    if out.len() < SCALAR_SIZE {
         return 0;
     }
     put_scalar(out, scalar_at(value, 0));
-    19
+    SCALAR_SIZE as u64
 }
+
+// Where four scalars stand, one behind the other; the first at 0.
+const SECOND_SCALAR: usize = SCALAR_SIZE;
+
+const THIRD_SCALAR: usize = SECOND_SCALAR + SCALAR_SIZE;
+
+const FOURTH_SCALAR: usize = THIRD_SCALAR + SCALAR_SIZE;
 
 fn fraction_of(scalars: &[u8]) -> IntervalFraction
     ensures { λ r. ⌜ r ≡ piecesFraction (now (scalars .entry)) ⌝ }
 {
     scalar_interval_fraction(
         scalar_at(scalars, 0),
-        scalar_at(scalars, 19),
-        scalar_at(scalars, 38),
-        scalar_at(scalars, 57),
+        scalar_at(scalars, SECOND_SCALAR),
+        scalar_at(scalars, THIRD_SCALAR),
+        scalar_at(scalars, FOURTH_SCALAR),
     )
 }
 
@@ -133,7 +143,7 @@ fn intersection_of(columns: &[u8], left_distinct: f64, right_distinct: f64) -> D
 {
     estimated_distinct_intersection(
         column_profile_at(columns, 0),
-        column_profile_at(columns, 98),
+        column_profile_at(columns, COLUMN_SIZE),
         left_distinct,
         right_distinct,
     )
@@ -171,11 +181,11 @@ fn write_estimate(out: &mut [u8], e: Estimate) -> u64
     ensures { λ r. ⌜ r ≡ written (now (out .entry)) ⌝ }
     ensures { λ _. ⌜ now (out .exit) ≡ withEstimate e (now (out .entry)) ⌝ }
 {
-    if out.len() < 26 {
+    if out.len() < ESTIMATE_SIZE {
         return 0;
     }
     put_estimate(out, e);
-    26
+    ESTIMATE_SIZE as u64
 }
 
 // Writes the one of two estimates of 26 bytes that has the larger value, as `write_estimate` does.

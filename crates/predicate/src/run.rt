@@ -2,6 +2,7 @@
 ghost use mathlib.Core.Path.{_≡_};
 ghost use Prim.Native.Nat.{_+_, _<_, _^_};
 ghost use Rattle.le.specs.Fields.{byteAt, u16At};
+ghost use Rattle.layout.specs.Places.{expressionOpOffset, expressionFirstOffset, expressionSecondOffset};
 ghost use Rattle.records.specs.Expressions.{naryOp};
 ghost use Rattle.lookup.specs.Lookup.{expressionOf};
 ghost use Rattle.sheet.specs.Sheet.{sheetOf};
@@ -12,6 +13,9 @@ use crate::leaves::like_estimate;
 use crate::leaves::literal_at;
 use crate::leaves::unary_at;
 use estimate::Estimate;
+use layout::EXPRESSION_FIRST_OFFSET;
+use layout::EXPRESSION_OP_OFFSET;
+use layout::EXPRESSION_SECOND_OFFSET;
 use le::reads::byte_at;
 use le::reads::u16_at;
 use lookup::numbers::expression_kind;
@@ -29,11 +33,11 @@ pub enum LeafOrRun {
 
 fn run_at(s: &[u8], at: usize) -> LeafOrRun
     requires { ⌜ at < 2 ^ 40 ⌝ }
-    ensures { λ r. ⌜ r ≡ Run (naryOp (byteAt (now (s .entry)) (at + 1))) (u16At (now (s .entry)) (at + 2)) (u16At (now (s .entry)) (at + 4)) ⌝ }
+    ensures { λ r. ⌜ r ≡ Run (naryOp (byteAt (now (s .entry)) (at + expressionOpOffset))) (u16At (now (s .entry)) (at + expressionFirstOffset)) (u16At (now (s .entry)) (at + expressionSecondOffset)) ⌝ }
 {
-    let op = nary_op(byte_at(s, at + 1));
-    let first = u16_at(s, at + 2);
-    let count = u16_at(s, at + 4);
+    let op = nary_op(byte_at(s, at + EXPRESSION_OP_OFFSET));
+    let first = u16_at(s, at + EXPRESSION_FIRST_OFFSET);
+    let count = u16_at(s, at + EXPRESSION_SECOND_OFFSET);
     LeafOrRun::Run { op, first, count }
 }
 

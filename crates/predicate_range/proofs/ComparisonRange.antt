@@ -20,14 +20,13 @@ use Rattle.records.specs.declared.expressions.UnaryOp.the-variants.{Not, IsNull
 use Rattle.records.specs.declared.expressions.BinaryOp.{BinaryOp}
 use Rattle.records.specs.declared.expressions.BinaryOp.the-variants.{Eq, IsNotDistinctFrom, NotEq, Lt, LtEq, Gt, GtEq, Add, Subtract, Multiply, Divide}
 use Rattle.sheet.specs.Sheet.{Sheet}
-use Rattle.lawful.specs.Lawful.{LawfulProfile, LawfulSheet}
+use Rattle.record_rules.specs.Lawful.{LawfulColumn}
+use Rattle.lawful.specs.Lawful.{LawfulSheet}
 use Rattle.units.proofs.SizeLaws.{round-up-to, up-to-unit}
 use Rattle.units.proofs.FigureLaws.{figure-max, figure-max-one-order, share-unit, figure-quotient-unit}
 use Rattle.units.proofs.SpreadLaws.{positive-difference-unit}
 use Rattle.units.proofs.UnitOperations.{complement-unit, sum-unit}
-use Rattle.lookup.specs.Lookup.{expressionOf, profileAndRows}
-use Rattle.lookup.specs.declared.profiles.ProfileAndRows.{ProfileAndRows}
-use Rattle.lookup.specs.declared.profiles.ProfileAndRows.the-variants.{Absent, Present}
+use Rattle.lookup.specs.Lookup.{ProfileAndRows, Absent, Present, expressionOf, profileAndRows}
 use Rattle.sketch.specs.Frequent.{frequentValueSelectivity}
 use Rattle.range.specs.Selectivity.{unitEstimate, defaultEstimate, nonNullFraction}
 use Rattle.range.specs.Range.{rangeSelectivity}
@@ -50,14 +49,14 @@ use Rattle.predicate_range.proofs.PartRange.{LawfulPair, pair-lawful}
 
 -- ---- a column and a literal
 module _ (sheet : Sheet) (h : LawfulSheet sheet) where
-  range-part : (profile : ColumnProfile) (literal : Scalar) (op : BinaryOp) (nonNull : Float) → LawfulProfile (length (sheet .sketches)) profile → lawfulScalar literal ≡ true → Unit01 nonNull → BoundedInUnit (unitEstimate (rangePart sheet profile literal op nonNull))
+  range-part : (profile : ColumnProfile) (literal : Scalar) (op : BinaryOp) (nonNull : Float) → LawfulColumn (length (sheet .sketches)) profile → lawfulScalar literal ≡ true → Unit01 nonNull → BoundedInUnit (unitEstimate (rangePart (sheet .settings .«range_fallback_selectivity») profile literal op nonNull))
   range-part profile literal op nonNull p l u =
       let fallback = sheet .settings .«range_fallback_selectivity» in
       let r = range-bounded profile literal op fallback (p .lower) (p .upper) l (selectivity-unit fallback (h .settings .«range_fallback_selectivity»)) in
       let part = rangeSelectivity profile literal op fallback .value in
       unit-bounded (mul binary64 part nonNull) (mul-unit part nonNull (r .value) u)
 
-  comparison : (profile : ColumnProfile) (literal : Scalar) (op : BinaryOp) (nonNull equality : Float) → LawfulProfile (length (sheet .sketches)) profile → lawfulScalar literal ≡ true → Unit01 nonNull → Unit01 equality
+  comparison : (profile : ColumnProfile) (literal : Scalar) (op : BinaryOp) (nonNull equality : Float) → LawfulColumn (length (sheet .sketches)) profile → lawfulScalar literal ≡ true → Unit01 nonNull → Unit01 equality
       → BoundedInUnit (comparisonSelectivity sheet profile literal op nonNull equality)
   unfolding comparisonValue defaultEstimate
   comparison profile literal Eq nonNull equality p l u v = unit-bounded equality v
@@ -72,14 +71,14 @@ module _ (sheet : Sheet) (h : LawfulSheet sheet) where
   comparison profile literal Multiply nonNull equality p l u v = default-bounded sheet h
   comparison profile literal Divide nonNull equality p l u v = default-bounded sheet h
 
-  equality-unit : (profile : ColumnProfile) (literal : Scalar) (nonNull : Float) → LawfulProfile (length (sheet .sketches)) profile → Unit01 nonNull
+  equality-unit : (profile : ColumnProfile) (literal : Scalar) (nonNull : Float) → LawfulColumn (length (sheet .sketches)) profile → Unit01 nonNull
       → Unit01 (equalityPart sheet profile literal nonNull)
   equality-unit profile literal nonNull p u =
       let frequent = frequentValueSelectivity (sheet .sketches) profile literal in
       let distinct = profile .distinct .value in
       either Unit01 (frequent .present) (frequent .number) (div binary64 nonNull (f64Max distinct f64One)) (frequent-unit (sheet .sketches) profile literal (h .sketches) (p .distinct .value)) (share-unit nonNull distinct u (p .distinct .value))
 
-  profile-bounded : (profile : ColumnProfile) (rows : Float) (literal : Scalar) (op : BinaryOp) → LawfulProfile (length (sheet .sketches)) profile → LawfulFigure rows → lawfulScalar literal ≡ true → BoundedInUnit (profileSelectivity sheet profile rows literal op)
+  profile-bounded : (profile : ColumnProfile) (rows : Float) (literal : Scalar) (op : BinaryOp) → LawfulColumn (length (sheet .sketches)) profile → LawfulFigure rows → lawfulScalar literal ≡ true → BoundedInUnit (profileSelectivity sheet profile rows literal op)
   unfolding profileSelectivity
   profile-bounded profile rows literal op p f l =
       let nonNull = nonNullFraction (profile .frequency .value) rows in
@@ -110,7 +109,7 @@ pair-bounded nullSafe left right leftDistinct rightDistinct u v f g =
     unit-bounded _ (sum-unit equal (cond nullSafe nulls f64Zero) a b)
 
 module _ (sheet : Sheet) (h : LawfulSheet sheet) where
-  profiles-bounded : (nullSafe same : Bool) (left : ColumnProfile) (leftRows : Float) (right : ColumnProfile) (rightRows : Float) → LawfulProfile (length (sheet .sketches)) left → LawfulFigure leftRows → LawfulProfile (length (sheet .sketches)) right → LawfulFigure rightRows
+  profiles-bounded : (nullSafe same : Bool) (left : ColumnProfile) (leftRows : Float) (right : ColumnProfile) (rightRows : Float) → LawfulColumn (length (sheet .sketches)) left → LawfulFigure leftRows → LawfulColumn (length (sheet .sketches)) right → LawfulFigure rightRows
       → BoundedInUnit (profilesSelectivity nullSafe same left leftRows right rightRows)
   unfolding profilesSelectivity
   profiles-bounded nullSafe same left leftRows right rightRows p f q g =

@@ -14,11 +14,12 @@ use Rattle.records.specs.declared.sketches.SketchItem.{SketchItem}
 use Rattle.records.specs.declared.columns.ColumnProfile.{ColumnProfile}
 use Rattle.records.specs.declared.expressions.Expression.the-variants.{Other}
 use Rattle.sheet.specs.Sheet.{Sheet}
-use Rattle.lawful.specs.Lawful.{Each, LawfulItem, LawfulSketch, LawfulProfile, LawfulExpression, LawfulSheet}
+use Rattle.record_rules.specs.Lawful.{LawfulColumn}
+use Rattle.sketch_rules.specs.Lawful.{LawfulItem}
+use Rattle.lawful.specs.Lawful.{Each, LawfulSketch, LawfulExpression, LawfulSheet}
 use Rattle.lawful.proofs.EachLaws.{each-at}
-use Rattle.lookup.specs.Lookup.{expressionOf, profileIn, orElseProfile, profileAndRows}
-use Rattle.lookup.specs.declared.profiles.ProfileAndRows.{ProfileAndRows}
-use Rattle.lookup.specs.declared.profiles.ProfileAndRows.the-variants.{Absent, Present}
+use Rattle.scan.specs.Scan.{firstWith}
+use Rattle.lookup.specs.Lookup.{ProfileAndRows, Absent, Present, expressionOf, profileIn, orElseProfile, profileAndRows}
 use Rattle.sketch.specs.Frequent.{noSketch, sketchOf, findItem}
 use Rattle.sketch.specs.declared.items.FoundItem.{FoundItem}
 use Rattle.sketch.specs.declared.items.FoundItem.the-variants.{Absent as NoItem, Present as Item}
@@ -39,10 +40,10 @@ expression-lawful sheet h e = at-or-default (LawfulExpression e) (sheet .express
 -- ---- profiles
 abbrev pub LawfulFound : ℕ → ProfileAndRows → Type 0
 LawfulFound n Absent = Unit {0}
-LawfulFound n (Present profile rows) = LawfulProfile n profile × LawfulFigure rows
+LawfulFound n (Present profile rows) = LawfulColumn n profile × LawfulFigure rows
 
-pub profile-in-lawful : (n : ℕ) (rows : Float) → LawfulFigure rows → (column : ℕ) (l : List ColumnProfile) → Each (LawfulProfile n) l → LawfulFound n (profileIn rows column l)
-unfolding profileIn
+pub profile-in-lawful : (n : ℕ) (rows : Float) → LawfulFigure rows → (column : ℕ) (l : List ColumnProfile) → Each (LawfulColumn n) l → LawfulFound n (profileIn rows column l)
+unfolding firstWith
 profile-in-lawful n rows f column [] h = tt
 profile-in-lawful n rows f column (p ∷ ps) h =
     either (LawfulFound n) (eqb (p .column) column) (Present p rows) (profileIn rows column ps) (h p (List·Memᴰ·head refl), f) (profile-in-lawful n rows f column ps (λ x m. h x (List·Memᴰ·tail m)))

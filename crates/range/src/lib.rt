@@ -12,6 +12,8 @@ use float::option::OptionF64;
 use float::order::absolute;
 use float::order::clamp_unit;
 use float::order::f64_max;
+use layout::COLUMN_LOWER_OFFSET;
+use layout::COLUMN_UPPER_OFFSET;
 use records::expressions::BinaryOp;
 use rules::both;
 
@@ -80,7 +82,7 @@ pub fn range_selectivity(
     requires { ⌜ (profile < 2 ^ 40) × (literal < 2 ^ 40) ⌝ }
     ensures { λ r. ⌜ r ≡ rangeSelectivity (columnProfileAt (now (s .entry)) profile) (scalarAt (now (s .entry)) literal) op fallback ⌝ }
 {
-    let min = bound_number_at(s, profile + 6);
-    let max = bound_number_at(s, profile + 25);
+    let min = bound_number_at(s, profile + COLUMN_LOWER_OFFSET);
+    let max = bound_number_at(s, profile + COLUMN_UPPER_OFFSET);
     range_of(op, fallback, min, max, number_at(s, literal))
 }

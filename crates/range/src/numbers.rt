@@ -9,6 +9,9 @@ use float::option::OptionF64;
 use float::option::none;
 use float::option::some;
 use float::tens::power_of_ten;
+use layout::DECIMAL_DIGITS_OFFSET;
+use layout::DECIMAL_SCALE_OFFSET;
+use layout::SCALAR_VALUE_OFFSET;
 use le::floats::f64_at;
 use le::integers::i32_at;
 use le::integers::i64_at;
@@ -21,12 +24,16 @@ pub fn number_at(s: &[u8], at: usize) -> OptionF64
     ensures { λ r. ⌜ r ≡ scalarToF64 (scalarAt (now (s .entry)) at) ⌝ }
 {
     let tag = byte_at(s, at);
+    let value = SCALAR_VALUE_OFFSET;
     match tag {
-        2 => some(nearest_i64(i32_to_i64(i32_at(s, at + 1)))),
-        3 => some(nearest_i64(i64_at(s, at + 1))),
-        4 => some(f64_at(s, at + 1)),
-        5 => some(nearest_i64(i64_at(s, at + 3)) / power_of_ten(byte_at(s, at + 2))),
-        6 => some(nearest_i64(i32_to_i64(i32_at(s, at + 1)))),
+        2 => some(nearest_i64(i32_to_i64(i32_at(s, at + value)))),
+        3 => some(nearest_i64(i64_at(s, at + value))),
+        4 => some(f64_at(s, at + value)),
+        5 => some(
+            nearest_i64(i64_at(s, at + (value + DECIMAL_DIGITS_OFFSET)))
+                / power_of_ten(byte_at(s, at + (value + DECIMAL_SCALE_OFFSET))),
+        ),
+        6 => some(nearest_i64(i32_to_i64(i32_at(s, at + value)))),
         _ => none(),
     }
 }

@@ -9,14 +9,13 @@ use lib.Dec.{leb, ltb}
 use borrow.Author.Tests.{leb-true, ltb-true}
 use Rattle.le.specs.Fields.{u16At}
 use Rattle.rules.proofs.RuleLaws.{ask-kept, both-first, both-second, else-first, else-second, each-kept}
-use Rattle.record_rules.specs.Fields.{whole, ascending}
+use Rattle.layout.specs.Fields.{whole}
+use Rattle.layout.proofs.LayoutLaws.{whole-room}
+use Rattle.record_rules.specs.Fields.{ascending}
 use Rattle.record_rules.specs.Rows.{rowsRefusal, settingRefusal}
 use Rattle.record_rules.specs.Catalog.{tableRefusal, keyRefusal}
 use Rattle.record_rules.specs.Columns.{columnNumberRefusal, columnRefusal}
 use Rattle.record_rules.specs.Classes.{classColumnRefusal, classHeadRefusal, classRefusal}
-
-pub whole-room : (n : ℕ) (s : List ℕ) (at : ℕ) → 0 < n → whole n s at ≡ 0 → at + n ≤ length s
-whole-room n s at h e = let l : n ≤ length s - at = leb-true n (length s - at) (ask-kept (leb n (length s - at)) 2 (omega arith) e) in omega arith
 
 -- ---- records of one size
 

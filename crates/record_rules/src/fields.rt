@@ -1,6 +1,8 @@
 // Rules that several records share.
 ghost use mathlib.Core.Path.{_≡_};
-ghost use Rattle.record_rules.specs.Fields.{whole, ascending, countLawful, isNone};
+ghost use Rattle.layout.specs.Fields.{whole};
+ghost use Rattle.record_rules.specs.Fields.{ascending, countLawful, isNone};
+use layout::COUNT_LIMIT;
 use le::reads::before;
 use le::reads::left;
 use le::reads::u16_at;
@@ -26,7 +28,7 @@ pub fn ascending(size: usize, s: &[u8], i: usize, at: usize) -> bool
 pub fn count_lawful(n: u64) -> bool
     ensures { λ r. ⌜ r ≡ countLawful n ⌝ }
 {
-    n <= 0x20_0000_0000_0000
+    n <= COUNT_LIMIT
 }
 
 // Whether the number stands for nothing.

@@ -6,6 +6,8 @@ use crate::fields::whole;
 use estimate::bytes::estimate_refusal;
 use estimate::bytes::figure_lawful;
 use float::ranges::zero_or_between;
+use layout::ESTIMATE_SIZE;
+use layout::FLOAT_SIZE;
 use le::floats::f64_at;
 use rules::ask;
 use rules::or_else;
@@ -14,7 +16,7 @@ pub fn rows_refusal(s: &[u8], at: usize) -> u8
     requires { ⌜ at < 2 ^ 60 ⌝ }
     ensures { λ r. ⌜ r ≡ rowsRefusal (now (s .entry)) at ⌝ }
 {
-    or_else(whole(26, s, at), estimate_refusal(s, at))
+    or_else(whole(ESTIMATE_SIZE, s, at), estimate_refusal(s, at))
 }
 
 fn selectivity_lawful(x: f64) -> bool
@@ -37,5 +39,8 @@ fn setting_lawful(i: usize, x: f64) -> bool
 pub fn setting_refusal(s: &[u8], i: usize, at: usize) -> u8
     ensures { λ r. ⌜ r ≡ settingRefusal (now (s .entry)) i at ⌝ }
 {
-    or_else(whole(8, s, at), ask(setting_lawful(i, f64_at(s, at)), 4))
+    or_else(
+        whole(FLOAT_SIZE, s, at),
+        ask(setting_lawful(i, f64_at(s, at)), 4),
+    )
 }

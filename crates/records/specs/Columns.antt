@@ -4,6 +4,7 @@ use mathlib.Core.Bool.{cond}
 use mathlib.Core.List.{List}
 use lib.Dec.{eqb}
 use Rattle.le.specs.Fields.{u16At}
+use Rattle.layout.specs.Places.{baseColumnOffset, columnBaseOffset, columnLowerOffset, columnUpperOffset, columnFrequencyOffset, columnDistinctOffset, columnSketchOffset}
 use Rattle.scalar_bytes.specs.Reading.{boundAt}
 use Rattle.estimate.specs.Bytes.{estimateAt}
 use Rattle.records.specs.declared.columns.BaseColumn.{BaseColumn}
@@ -14,7 +15,7 @@ use Rattle.records.specs.declared.columns.ColumnProfile.{ColumnProfile}
 
 -- FFFF as the table: none
 unfoldable pub baseColumnAt : List ℕ → ℕ → BaseColumn
-baseColumnAt s at = cond (eqb (u16At s at) 0xffff) Absent (Present (u16At s at) (u16At s (at + 2)))
+baseColumnAt s at = cond (eqb (u16At s at) 0xffff) Absent (Present (u16At s at) (u16At s (at + baseColumnOffset)))
 
 -- FFFF: none
 unfoldable pub sketchNumberAt : List ℕ → ℕ → SketchNumber
@@ -24,10 +25,10 @@ unfoldable pub columnProfileAt : List ℕ → ℕ → ColumnProfile
 unfolding baseColumnAt sketchNumberAt boundAt estimateAt
 columnProfileAt s at = record {
   column = u16At s at;
-  base = baseColumnAt s (at + 2);
-  lower = boundAt s (at + 6);
-  upper = boundAt s (at + 25);
-  frequency = estimateAt s (at + 44);
-  distinct = estimateAt s (at + 70);
-  sketch = sketchNumberAt s (at + 96);
+  base = baseColumnAt s (at + columnBaseOffset);
+  lower = boundAt s (at + columnLowerOffset);
+  upper = boundAt s (at + columnUpperOffset);
+  frequency = estimateAt s (at + columnFrequencyOffset);
+  distinct = estimateAt s (at + columnDistinctOffset);
+  sketch = sketchNumberAt s (at + columnSketchOffset);
 }

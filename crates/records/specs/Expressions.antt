@@ -1,9 +1,10 @@
--- An expression of 25 bytes: kind, op, a, b, scalar. The operators stand in the order of the source's lib.rs. Definitions only.
+-- An expression: kind, op, a, b, scalar. The operators stand in the order of the source's lib.rs. Definitions only.
 use Prim.Native.Nat.{ℕ, _+_}
 use mathlib.Core.Bool.{cond}
 use mathlib.Core.List.{List}
 use lib.Dec.{eqb}
 use Rattle.le.specs.Fields.{byteAt, u16At}
+use Rattle.layout.specs.Places.{expressionOpOffset, expressionFirstOffset, expressionSecondOffset, expressionScalarOffset}
 use Rattle.scalar_bytes.specs.Reading.{scalarAt}
 use Rattle.records.specs.declared.expressions.UnaryOp.{UnaryOp}
 use Rattle.records.specs.declared.expressions.UnaryOp.the-variants.{Not, IsNull, IsNotNull, Negate}
@@ -39,10 +40,10 @@ unfoldable pub expressionAt : List ℕ → ℕ → Expression
 unfolding scalarAt
 expressionAt s at =
     let kind = byteAt s at in
-    let op = byteAt s (at + 1) in
-    let a = u16At s (at + 2) in
-    let b = u16At s (at + 4) in
-    cond (eqb kind 0) (Literal (scalarAt s (at + 6)))
+    let op = byteAt s (at + expressionOpOffset) in
+    let a = u16At s (at + expressionFirstOffset) in
+    let b = u16At s (at + expressionSecondOffset) in
+    cond (eqb kind 0) (Literal (scalarAt s (at + expressionScalarOffset)))
     (cond (eqb kind 1) (ColumnRef a)
     (cond (eqb kind 2) (Unary (unaryOp op) a)
     (cond (eqb kind 3) (Binary (binaryOp op) a b)

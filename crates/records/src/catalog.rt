@@ -2,6 +2,11 @@
 ghost use mathlib.Core.Path.{_≡_};
 ghost use Prim.Native.Nat.{_<_, _^_};
 ghost use Rattle.records.specs.Catalog.{rowCountOf, tableAt, keyAt};
+use layout::KEY_COLUMN_OFFSET;
+use layout::KEY_REFERENCED_COLUMN_OFFSET;
+use layout::KEY_REFERENCED_TABLE_OFFSET;
+use layout::KEY_TABLE_OFFSET;
+use layout::TABLE_ROWS_OFFSET;
 use le::reads::byte_at;
 use le::reads::u16_at;
 use le::reads::u64_at;
@@ -44,7 +49,7 @@ pub fn table_at(s: &[u8], at: usize) -> Table
 {
     Table {
         table: u16_at(s, at),
-        rows: row_count_of(u64_at(s, at + 2)),
+        rows: row_count_of(u64_at(s, at + TABLE_ROWS_OFFSET)),
     }
 }
 
@@ -54,14 +59,14 @@ pub fn key_at(s: &[u8], at: usize) -> Key
 {
     if byte_at(s, at) == 1 {
         return Key::Unique {
-            table: u16_at(s, at + 1),
-            column: u16_at(s, at + 3),
+            table: u16_at(s, at + KEY_TABLE_OFFSET),
+            column: u16_at(s, at + KEY_COLUMN_OFFSET),
         };
     }
     Key::Foreign {
-        table: u16_at(s, at + 1),
-        column: u16_at(s, at + 3),
-        referenced_table: u16_at(s, at + 5),
-        referenced_column: u16_at(s, at + 7),
+        table: u16_at(s, at + KEY_TABLE_OFFSET),
+        column: u16_at(s, at + KEY_COLUMN_OFFSET),
+        referenced_table: u16_at(s, at + KEY_REFERENCED_TABLE_OFFSET),
+        referenced_column: u16_at(s, at + KEY_REFERENCED_COLUMN_OFFSET),
     }
 }

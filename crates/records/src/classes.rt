@@ -4,6 +4,7 @@ ghost use Prim.Native.Nat.{_<_, _^_};
 ghost use Rattle.records.specs.Classes.{classHeadAt};
 use estimate::Estimate;
 use estimate::bytes::estimate_at;
+use layout::CLASS_DISTINCT_OFFSET;
 use le::reads::u16_at;
 
 // What stands before the columns. `count` is their number.
@@ -18,6 +19,6 @@ pub fn class_head_at(s: &[u8], at: usize) -> ClassHead
 {
     ClassHead {
         count: u16_at(s, at),
-        distinct: estimate_at(s, at + 2),
+        distinct: estimate_at(s, at + CLASS_DISTINCT_OFFSET),
     }
 }

@@ -4,6 +4,13 @@ ghost use Prim.Native.Nat.{_<_, _^_};
 ghost use Rattle.records.specs.Columns.{baseColumnAt, sketchNumberAt, columnProfileAt};
 use estimate::Estimate;
 use estimate::bytes::estimate_at;
+use layout::BASE_COLUMN_OFFSET;
+use layout::COLUMN_BASE_OFFSET;
+use layout::COLUMN_DISTINCT_OFFSET;
+use layout::COLUMN_FREQUENCY_OFFSET;
+use layout::COLUMN_LOWER_OFFSET;
+use layout::COLUMN_SKETCH_OFFSET;
+use layout::COLUMN_UPPER_OFFSET;
 use le::reads::u16_at;
 use scalar::Bound;
 use scalar_bytes::reads::bound_at;
@@ -40,7 +47,7 @@ fn base_column_at(s: &[u8], at: usize) -> BaseColumn
     }
     BaseColumn::Present {
         table,
-        column: u16_at(s, at + 2),
+        column: u16_at(s, at + BASE_COLUMN_OFFSET),
     }
 }
 
@@ -60,11 +67,11 @@ pub fn column_profile_at(s: &[u8], at: usize) -> ColumnProfile
 {
     ColumnProfile {
         column: u16_at(s, at),
-        base: base_column_at(s, at + 2),
-        lower: bound_at(s, at + 6),
-        upper: bound_at(s, at + 25),
-        frequency: estimate_at(s, at + 44),
-        distinct: estimate_at(s, at + 70),
-        sketch: sketch_number_at(s, at + 96),
+        base: base_column_at(s, at + COLUMN_BASE_OFFSET),
+        lower: bound_at(s, at + COLUMN_LOWER_OFFSET),
+        upper: bound_at(s, at + COLUMN_UPPER_OFFSET),
+        frequency: estimate_at(s, at + COLUMN_FREQUENCY_OFFSET),
+        distinct: estimate_at(s, at + COLUMN_DISTINCT_OFFSET),
+        sketch: sketch_number_at(s, at + COLUMN_SKETCH_OFFSET),
     }
 }

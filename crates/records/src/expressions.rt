@@ -3,6 +3,10 @@
 ghost use mathlib.Core.Path.{_≡_};
 ghost use Prim.Native.Nat.{_<_, _^_};
 ghost use Rattle.records.specs.Expressions.{unaryOp, binaryOp, naryOp, expressionAt};
+use layout::EXPRESSION_FIRST_OFFSET;
+use layout::EXPRESSION_OP_OFFSET;
+use layout::EXPRESSION_SCALAR_OFFSET;
+use layout::EXPRESSION_SECOND_OFFSET;
 use le::reads::byte_at;
 use le::reads::u16_at;
 use scalar::Scalar;
@@ -89,21 +93,21 @@ pub fn expression_at(s: &[u8], at: usize) -> Expression
 {
     let kind = byte_at(s, at);
     match kind {
-        0 => Expression::Literal(scalar_at(s, at + 6)),
-        1 => Expression::ColumnRef(u16_at(s, at + 2)),
+        0 => Expression::Literal(scalar_at(s, at + EXPRESSION_SCALAR_OFFSET)),
+        1 => Expression::ColumnRef(u16_at(s, at + EXPRESSION_FIRST_OFFSET)),
         2 => Expression::Unary {
-            op: unary_op(byte_at(s, at + 1)),
-            expr: u16_at(s, at + 2),
+            op: unary_op(byte_at(s, at + EXPRESSION_OP_OFFSET)),
+            expr: u16_at(s, at + EXPRESSION_FIRST_OFFSET),
         },
         3 => Expression::Binary {
-            op: binary_op(byte_at(s, at + 1)),
-            left: u16_at(s, at + 2),
-            right: u16_at(s, at + 4),
+            op: binary_op(byte_at(s, at + EXPRESSION_OP_OFFSET)),
+            left: u16_at(s, at + EXPRESSION_FIRST_OFFSET),
+            right: u16_at(s, at + EXPRESSION_SECOND_OFFSET),
         },
         4 => Expression::Nary {
-            op: nary_op(byte_at(s, at + 1)),
-            first: u16_at(s, at + 2),
-            count: u16_at(s, at + 4),
+            op: nary_op(byte_at(s, at + EXPRESSION_OP_OFFSET)),
+            first: u16_at(s, at + EXPRESSION_FIRST_OFFSET),
+            count: u16_at(s, at + EXPRESSION_SECOND_OFFSET),
         },
         5 => Expression::Like,
         _ => Expression::Other,

@@ -2,6 +2,9 @@
 ghost use mathlib.Core.Path.{_≡_};
 ghost use Prim.Native.Nat.{_<_, _^_};
 ghost use Rattle.records.specs.Sketches.{sketchHeadAt, sketchItemAt};
+use layout::ITEM_ERROR_OFFSET;
+use layout::ITEM_LOWER_OFFSET;
+use layout::SKETCH_COUNT_OFFSET;
 use le::reads::u16_at;
 use le::reads::u64_at;
 use scalar::Scalar;
@@ -26,7 +29,7 @@ pub fn sketch_head_at(s: &[u8], at: usize) -> SketchHead
 {
     SketchHead {
         population: u64_at(s, at),
-        count: u16_at(s, at + 8),
+        count: u16_at(s, at + SKETCH_COUNT_OFFSET),
     }
 }
 
@@ -36,7 +39,7 @@ pub fn sketch_item_at(s: &[u8], at: usize) -> SketchItem
 {
     SketchItem {
         value: scalar_at(s, at),
-        lower: u64_at(s, at + 19),
-        error: u64_at(s, at + 27),
+        lower: u64_at(s, at + ITEM_LOWER_OFFSET),
+        error: u64_at(s, at + ITEM_ERROR_OFFSET),
     }
 }

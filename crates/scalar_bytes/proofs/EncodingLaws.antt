@@ -2,7 +2,7 @@
 use Prim.Native.Nat.{ℕ, zero, suc, _+_, _-_, _*_, _/_, _^_, _≤_, _<_}
 use mathlib.Core.Path.{_≡_, refl, sym, ap, _∙_, subst}
 use mathlib.Core.Logic.{_↔_}
-use mathlib.Core.Bool.{Bool, true, false, not, cond, _&&_, false≢true, and-false}
+use mathlib.Core.Bool.{Bool, true, false, not, cond, _&&_, false≢true}
 use mathlib.Core.List.{List, [], _∷_, _++_}
 use native.Mathlib.Omega.{arith}
 use native.Mathlib.Nat.{add-zero, mod-eq-of-lt}
@@ -20,10 +20,13 @@ use Rattle.le.specs.Integers.{i64At}
 use Rattle.le.specs.Floats.{f64At}
 use Rattle.le.proofs.FieldLaws.{Bytes, FieldsAt, FieldsFit, widths, fieldsBytes, field-below, field-split, u8-sum, fields-length, fields-found, fields-back}
 use Rattle.signed.proofs.SignedLaws.{unsigned-below, unsigned-back, signed-in, signed-back}
+use Rattle.rules.specs.Rules.{ask}
+use Rattle.rules.proofs.RuleLaws.{ask-kept, else-first, else-second}
+use Rattle.layout.specs.Places.{scalarValueOffset, scalarValueSize}
 use Rattle.scalar_bytes.proofs.WritingLaws.{extension-below, extended, value-bytes}
 use Rattle.scalar_bytes.proofs.FloatLaws.{lawful-bits}
-use Rattle.scalar_bytes.specs.Reading.{Refused, Lawful, isBound, isSketch, placeAllows, float64Lawful, signExtended, decimalLawful, scalarLawful, boundAt, readScalar}
-use Rattle.scalar_bytes.specs.Encoding.{encodedBytes, extension, scalarBytes, boundBytes, in32, in64, lawfulScalar, lawfulBound}
+use Rattle.scalar_bytes.specs.Reading.{Refused, Lawful, tagAllowed, float64Lawful, signExtended, decimalLawful, valueRefusal, valueSize, zerosBehind, scalarRefusal, boundAt, readScalar}
+use Rattle.scalar_bytes.specs.Encoding.{encodedBytes, extension, scalarBytes, boundBytes, in32, in64, lawfulScalar, lawfulBound, placeAllows}
 use Rattle.scalar.specs.declared.Scalar.{Scalar}
 use Rattle.scalar.specs.declared.Scalar.the-variants.{Null, Boolean, Int32, Int64, Float64, Decimal128, Date32, IntervalMonthDayNano, IntervalDayTime}
 use Rattle.scalar.specs.declared.Bound.{Bound}
@@ -199,7 +202,7 @@ no-nan nan h = absurd (false≢true h)
 no-nan (inf s) h = tt
 no-nan (fin s m e) h = tt
 
-pick : {P : Type 0} (t x y : Bool) → (t ≡ true → x ≡ true → P) → (y ≡ true → P) → cond t x y ≡ true → P
+pick : {P : Type 0} (t : Bool) (x y : ℕ) → (t ≡ true → x ≡ 0 → P) → (y ≡ 0 → P) → cond t x y ≡ 0 → P
 pick true x y f g e = f refl e
 pick false x y f g e = g e
 
@@ -213,8 +216,8 @@ module _ (place : ScalarPlace) (s : List ℕ) (at : ℕ) where
   tag-field : (tag : ℕ) → eqb (byteAt s at) tag ≡ true → fieldAt 1 s (at + 0) ≡ tag
   tag-field tag t = u8-sum s (at + 0) ∙ ap (byteAt s) (add-zero at) ∙ eqb-true (byteAt s at) tag t
 
-  zeros : (n k : ℕ) → eqb (fieldAt n s k) 0 ≡ true → fieldAt n s k ≡ 0
-  zeros n k t = eqb-true (fieldAt n s k) 0 t
+  kept : (t : Bool) → ask t 5 ≡ 0 → t ≡ true
+  kept t = ask-kept t 5 (omega arith)
 
   signed-field : (n k : ℕ) → Bytes s → fieldAt n s k ≡ unsigned n (signed n (fieldAt n s k))
   signed-field n k b = sym (unsigned-back n (fieldAt n s k) (field-below n s k b))
@@ -234,36 +237,49 @@ module _ (place : ScalarPlace) (s : List ℕ) (at : ℕ) where
       let v = value-split s at in
       omega arith
 
-  accepted : scalarLawful place s at ≡ true → Accepted place s at (boundAt s at)
-  unfolding scalarLawful boundAt placeAllows lawfulBound
-  accepted =
+  module _ (refusal : scalarRefusal place s at ≡ 0) where
+    -- under a tag: it may stand at the place, and zeros stand behind the value
+    allowed-as : (tag : ℕ) → eqb (byteAt s at) tag ≡ true → tagAllowed place tag ≡ true
+    unfolding scalarRefusal
+    allowed-as tag t = subst (λ (k : ℕ). tagAllowed place k ≡ true) (eqb-true (byteAt s at) tag t) (kept (tagAllowed place (byteAt s at)) (else-first _ _ refusal))
+
+    value-kept : valueRefusal (byteAt s at) s (at + scalarValueOffset) ≡ 0
+    unfolding scalarRefusal
+    value-kept = else-first _ _ (else-second (ask (tagAllowed place (byteAt s at)) 5) _ refusal)
+
+    zeros : (tag : ℕ) → eqb (byteAt s at) tag ≡ true → fieldAt (scalarValueSize - valueSize tag) s (at + (scalarValueOffset + valueSize tag)) ≡ 0
+    unfolding scalarRefusal
+    zeros tag t =
+        let z = kept (zerosBehind (byteAt s at) s at) (else-second (valueRefusal (byteAt s at) s (at + scalarValueOffset)) _ (else-second (ask (tagAllowed place (byteAt s at)) 5) _ refusal)) in
+        eqb-true (fieldAt (scalarValueSize - valueSize tag) s (at + (scalarValueOffset + valueSize tag))) 0 (subst (λ (k : ℕ). zerosBehind k s at ≡ true) (eqb-true (byteAt s at) tag t) z)
+
+  by-tag : scalarRefusal place s at ≡ 0 → valueRefusal (byteAt s at) s (at + scalarValueOffset) ≡ 0 → Accepted place s at (boundAt s at)
+  unfolding valueRefusal valueSize boundAt placeAllows lawfulBound
+  by-tag r =
       pick (eqb (byteAt s at) 0) _ _
-      (λ t e.
-      let a = both-true (not (isSketch place)) _ e in
-      rw (eqb-true (byteAt s at) 0 t) record { allowed = a .0; lawful = λ b. refl; fields = λ b. (tag-field 0 t, (zeros 18 (at + 1) (a .1), tt)) })
+      (λ t e. rw (eqb-true (byteAt s at) 0 t) record { allowed = allowed-as r 0 t; lawful = λ b. refl; fields = λ b. (tag-field 0 t, (zeros r 0 t, tt)) })
       (pick (eqb (byteAt s at) 1) _ _
       (λ t e.
-      let a = both-true (leb (byteAt s (at + 1)) 1) _ e in
-      let v : fieldAt 1 s (at + 1) ≡ bit (eqb (byteAt s (at + 1)) 1) = u8-sum s (at + 1) ∙ bit-of (byteAt s (at + 1)) (leb-true (byteAt s (at + 1)) 1 (a .0)) in
-      rw (eqb-true (byteAt s at) 1 t) record { allowed = refl; lawful = λ b. refl; fields = λ b. (tag-field 1 t, (v, (zeros 17 (at + 2) (a .1), tt))) })
+      let v : fieldAt 1 s (at + 1) ≡ bit (eqb (byteAt s (at + 1)) 1) = u8-sum s (at + 1) ∙ bit-of (byteAt s (at + 1)) (leb-true (byteAt s (at + 1)) 1 (kept (leb (byteAt s (at + 1)) 1) e)) in
+      rw (eqb-true (byteAt s at) 1 t) record { allowed = refl; lawful = λ b. refl; fields = λ b. (tag-field 1 t, (v, (zeros r 1 t, tt))) })
       (pick (eqb (byteAt s at) 2) _ _
-      (λ t e. rw (eqb-true (byteAt s at) 2 t) record { allowed = refl; lawful = held 3 (at + 1); fields = λ b. (tag-field 2 t, (signed-field 4 (at + 1) b, (zeros 14 (at + 5) e, tt))) })
+      (λ t e. rw (eqb-true (byteAt s at) 2 t) record { allowed = refl; lawful = held 3 (at + 1); fields = λ b. (tag-field 2 t, (signed-field 4 (at + 1) b, (zeros r 2 t, tt))) })
       (pick (eqb (byteAt s at) 3) _ _
-      (λ t e. rw (eqb-true (byteAt s at) 3 t) record { allowed = refl; lawful = held 7 (at + 1); fields = λ b. (tag-field 3 t, (signed-field 8 (at + 1) b, (zeros 10 (at + 9) e, tt))) })
+      (λ t e. rw (eqb-true (byteAt s at) 3 t) record { allowed = refl; lawful = held 7 (at + 1); fields = λ b. (tag-field 3 t, (signed-field 8 (at + 1) b, (zeros r 3 t, tt))) })
       (pick (eqb (byteAt s at) 4) _ _
       (λ t e.
-      let a = both-true (float64Lawful (f64At s (at + 1))) _ e in
+      let a = kept (float64Lawful (f64At s (at + 1))) e in
       rw (eqb-true (byteAt s at) 4 t)
       record {
         allowed = refl;
-        lawful = λ b. rw (is-true (fits binary64 (f64At s (at + 1))) (ofBits-fits binary64 (fieldAt 8 s (at + 1)))) (a .0);
-        fields = λ b. (tag-field 4 t, (float-field b (a .0), (zeros 10 (at + 9) (a .1), tt)));
+        lawful = λ b. rw (is-true (fits binary64 (f64At s (at + 1))) (ofBits-fits binary64 (fieldAt 8 s (at + 1)))) a;
+        fields = λ b. (tag-field 4 t, (float-field b a, (zeros r 4 t, tt)));
       })
       (pick (eqb (byteAt s at) 5) _ _
       (λ t e.
       let p = byteAt s (at + 1) in
       let q = byteAt s (at + 2) in
-      let a = both-true (leb 1 p && leb p 38) _ (sym (decimal-test s at) ∙ e) in
+      let a = both-true (leb 1 p && leb p 38) _ (sym (decimal-test s at) ∙ kept (decimalLawful s (at + 1)) e) in
       let c = both-true (leb q 22) (signExtended s (at + 3)) (a .1) in
       rw (eqb-true (byteAt s at) 5 t)
       record {
@@ -272,14 +288,14 @@ module _ (place : ScalarPlace) (s : List ℕ) (at : ℕ) where
         fields = λ b. (tag-field 5 t, (u8-sum s (at + 1), (u8-sum s (at + 2), (signed-field 8 (at + 3) b, (extension-field b (c .1), tt)))));
       })
       (pick (eqb (byteAt s at) 6) _ _
-      (λ t e. rw (eqb-true (byteAt s at) 6 t) record { allowed = refl; lawful = held 3 (at + 1); fields = λ b. (tag-field 6 t, (signed-field 4 (at + 1) b, (zeros 14 (at + 5) e, tt))) })
+      (λ t e. rw (eqb-true (byteAt s at) 6 t) record { allowed = refl; lawful = held 3 (at + 1); fields = λ b. (tag-field 6 t, (signed-field 4 (at + 1) b, (zeros r 6 t, tt))) })
       (pick (eqb (byteAt s at) 8) _ _
       (λ t e.
       rw (eqb-true (byteAt s at) 8 t)
       record {
         allowed = refl;
         lawful = λ b. rw (held 3 (at + 1) b, held 3 (at + 5) b, held 7 (at + 9) b) refl;
-        fields = λ b. (tag-field 8 t, (signed-field 4 (at + 1) b, (signed-field 4 (at + 5) b, (signed-field 8 (at + 9) b, (zeros 2 (at + 17) e, tt)))));
+        fields = λ b. (tag-field 8 t, (signed-field 4 (at + 1) b, (signed-field 4 (at + 5) b, (signed-field 8 (at + 9) b, (zeros r 8 t, tt)))));
       })
       (pick (eqb (byteAt s at) 9) _ _
       (λ t e.
@@ -287,33 +303,37 @@ module _ (place : ScalarPlace) (s : List ℕ) (at : ℕ) where
       record {
         allowed = refl;
         lawful = λ b. rw (held 3 (at + 1) b, held 3 (at + 5) b) refl;
-        fields = λ b. (tag-field 9 t, (signed-field 4 (at + 1) b, (signed-field 4 (at + 5) b, (zeros 10 (at + 9) e, tt))));
+        fields = λ b. (tag-field 9 t, (signed-field 4 (at + 1) b, (signed-field 4 (at + 5) b, (zeros r 9 t, tt))));
       })
       (pick (eqb (byteAt s at) 255) _ _
-      (λ t e.
-      let a = both-true (isBound place) _ e in
-      rw (eqb-true (byteAt s at) 255 t) record { allowed = a .0; lawful = λ b. refl; fields = λ b. (tag-field 255 t, (zeros 18 (at + 1) (a .1), tt)) })
-      (λ e. absurd (false≢true e)))))))))))
+      (λ t e. rw (eqb-true (byteAt s at) 255 t) record { allowed = allowed-as r 255 t; lawful = λ b. refl; fields = λ b. (tag-field 255 t, (zeros r 255 t, tt)) })
+      (λ e. absurd (none e)))))))))))
+    where
+      none : _≡_ {A = ℕ} 5 0 → ⊥
+      none e = omega arith
+
+  accepted : scalarRefusal place s at ≡ 0 → Accepted place s at (boundAt s at)
+  accepted r = by-tag r (value-kept r)
 
 -- what was read was accepted
-read-accepts : (place : ScalarPlace) (s : List ℕ) (at : ℕ) (b : Bound) → readScalar place s at ≡ Lawful b → (scalarLawful place s at ≡ true) × (boundAt s at ≡ b)
+read-accepts : (place : ScalarPlace) (s : List ℕ) (at : ℕ) (b : Bound) → readScalar place s at ≡ Lawful b → (scalarRefusal place s at ≡ 0) × (boundAt s at ≡ b)
 unfolding readScalar
-read-accepts place s at b = go (scalarLawful place s at) (boundAt s at)
+read-accepts place s at b = go (eqb (scalarRefusal place s at) 0) (scalarRefusal place s at) (boundAt s at) (eqb-true (scalarRefusal place s at) 0)
   where
-    go : (t : Bool) (x : Bound) → cond t (Lawful x) (Refused 5) ≡ Lawful b → (t ≡ true) × (x ≡ b)
-    go true x e = (refl, cc)
-    go false x e = let z : _≡_ {A = ℕ} 0 1 = cc in absurd (omega arith)
+    go : (t : Bool) (n : ℕ) (x : Bound) → (t ≡ true → n ≡ 0) → cond t (Lawful x) (Refused n) ≡ Lawful b → (n ≡ 0) × (x ≡ b)
+    go true n x f e = (f refl, cc)
+    go false n x f e = let z : _≡_ {A = ℕ} 0 1 = cc in absurd (omega arith)
 
 -- ---- the laws
 
-pub accepted-allowed : (place : ScalarPlace) (s : List ℕ) (at : ℕ) → scalarLawful place s at ≡ true → placeAllows place (boundAt s at) ≡ true
+pub accepted-allowed : (place : ScalarPlace) (s : List ℕ) (at : ℕ) → scalarRefusal place s at ≡ 0 → placeAllows place (boundAt s at) ≡ true
 accepted-allowed place s at e = accepted place s at e .allowed
 
-pub accepted-lawful : (place : ScalarPlace) (s : List ℕ) (at : ℕ) → Bytes s → scalarLawful place s at ≡ true → lawfulBound (boundAt s at) ≡ true
+pub accepted-lawful : (place : ScalarPlace) (s : List ℕ) (at : ℕ) → Bytes s → scalarRefusal place s at ≡ 0 → lawfulBound (boundAt s at) ≡ true
 accepted-lawful place s at k e = accepted place s at e .lawful k
 
 -- an accepted scalar is written as it stood
-pub written-back : (place : ScalarPlace) (s : List ℕ) (at : ℕ) → Bytes s → at + 19 ≤ length s → scalarLawful place s at ≡ true → boundBytes (boundAt s at) ≡ take 19 (drop at s)
+pub written-back : (place : ScalarPlace) (s : List ℕ) (at : ℕ) → Bytes s → at + 19 ≤ length s → scalarRefusal place s at ≡ 0 → boundBytes (boundAt s at) ≡ take 19 (drop at s)
 written-back place s at k h e =
     let b : Bound = boundAt s at in
     let w = written b (accepted-lawful place s at k e) in
@@ -330,13 +350,21 @@ pub reads-back : (place : ScalarPlace) (s : List ℕ) (at : ℕ) (b : Bound) →
 reads-back place s at b k h e = let a = read-accepts place s at b e in ap boundBytes (sym (a .1)) ∙ written-back place s at k h (a .0)
 
 -- every lawful bound is accepted where the place allows it
-pub read-accepted : (place : ScalarPlace) (b : Bound) (t : List ℕ) → lawfulBound b ≡ true → placeAllows place b ≡ true → scalarLawful place (boundBytes b ++ t) 0 ≡ true
+pub read-accepted : (place : ScalarPlace) (b : Bound) (t : List ℕ) → lawfulBound b ≡ true → placeAllows place b ≡ true → scalarRefusal place (boundBytes b ++ t) 0 ≡ 0
 read-accepted place b t h p = read-accepts place (boundBytes b ++ t) 0 b (reads-lawful place b t h p) .0
 
 bound-allows : (b : Bound) → placeAllows AtBound b ≡ true
 unfolding placeAllows
 bound-allows Absent = refl
-bound-allows (Present x) = rw and-false refl
+bound-allows (Present Null) = refl
+bound-allows (Present (Boolean b)) = refl
+bound-allows (Present (Int32 x)) = refl
+bound-allows (Present (Int64 x)) = refl
+bound-allows (Present (Float64 x)) = refl
+bound-allows (Present (Decimal128 value precision scale)) = refl
+bound-allows (Present (Date32 x)) = refl
+bound-allows (Present (IntervalMonthDayNano months days nanoseconds)) = refl
+bound-allows (Present (IntervalDayTime days milliseconds)) = refl
 
 pub read-back : (b : Bound) (t : List ℕ) → lawfulBound b ≡ true → boundAt (boundBytes b ++ t) 0 ≡ b
 read-back b t h = read-accepts AtBound (boundBytes b ++ t) 0 b (reads-lawful AtBound b t h (bound-allows b)) .1

@@ -1,5 +1,5 @@
 -- Laws of reading a scalar. Assumes nothing.
-use Prim.Native.Nat.{ℕ, suc, _+_, _-_, _*_, _/_, _^_, _≤_, _<_}
+use Prim.Native.Nat.{ℕ, zero, suc, _+_, _-_, _*_, _/_, _^_, _≤_, _<_}
 use mathlib.Core.Path.{_≡_, refl, sym, ap, _∙_}
 use mathlib.Core.Bool.{Bool, true, false, cond}
 use mathlib.Core.List.{List}
@@ -11,6 +11,7 @@ use borrow.Author.Tests.{eq-eqb, ne-eqb, lt-ltb, le-ltb, eqb-true, eqb-false}
 use Rattle.le.specs.Fields.{fieldAt}
 use Rattle.signed.specs.Signed.{signed, unsigned}
 use Rattle.le.proofs.FieldLaws.{field-split}
+use Rattle.rules.specs.Rules.{orElse}
 use Rattle.scalar_bytes.specs.Reading.{signExtended}
 
 -- ---- the sign extension
@@ -54,3 +55,9 @@ module _ (s : List ℕ) (at : ℕ) where
       (λ q. e ∙ top-is 0xffff_ffff_ffff_ffff (fieldAt 8 s at) (fieldAt 8 s (at + 8)) m q)
       (λ q. is-top 0xffff_ffff_ffff_ffff (fieldAt 8 s at) (fieldAt 8 s (at + 8)) m (sym e ∙ q)) in
       r ∙ sym (ap (λ (t : Bool). eqb (fieldAt 16 s at) (unsigned 16 (cond t (pos (fieldAt 8 s at)) (negsuc (2 ^ 64 - suc (fieldAt 8 s at)))))) (le-ltb (fieldAt 8 s at) (2 ^ 63) h))
+
+-- ---- no bytes behind a decimal
+
+pub else-none : (a : ℕ) → orElse a 0 ≡ a
+else-none zero = refl
+else-none (suc a) = refl

@@ -115,6 +115,16 @@ not-zeros : readScalar Literal (2 ∷ 0xfe ∷ 0xff ∷ 0xff ∷ 0xff ∷ 0 ∷ 
 unfolding readScalar signed unsigned fieldAt ofBits le neg
 not-zeros = refl
 
+-- the first byte behind an Int32 is not zero
+not-zero-behind : readScalar Literal (2 ∷ 0xfe ∷ 0xff ∷ 0xff ∷ 0xff ∷ 1 ∷ 0 ∷ 0 ∷ 0 ∷ 0 ∷ 0 ∷ 0 ∷ 0 ∷ 0 ∷ 0 ∷ 0 ∷ 0 ∷ 0 ∷ 0 ∷ []) 0 ≡ Refused 5
+unfolding readScalar signed unsigned fieldAt ofBits le neg
+not-zero-behind = refl
+
+-- the last byte behind an interval's nanoseconds is not zero
+not-zero-last : readScalar Literal (8 ∷ 0xfe ∷ 0xff ∷ 0xff ∷ 0xff ∷ 0x38 ∷ 0x4a ∷ 0 ∷ 0 ∷ 0xff ∷ 0xff ∷ 0xff ∷ 0xff ∷ 0xff ∷ 0xff ∷ 0xff ∷ 0xff ∷ 0 ∷ 1 ∷ []) 0 ≡ Refused 5
+unfolding readScalar signed unsigned fieldAt ofBits le neg
+not-zero-last = refl
+
 -- -0
 float-minus-zero : readScalar Literal (4 ∷ 0 ∷ 0 ∷ 0 ∷ 0 ∷ 0 ∷ 0 ∷ 0 ∷ 0x80 ∷ 0 ∷ 0 ∷ 0 ∷ 0 ∷ 0 ∷ 0 ∷ 0 ∷ 0 ∷ 0 ∷ 0 ∷ []) 0 ≡ Refused 5
 unfolding readScalar signed unsigned fieldAt ofBits le neg

@@ -9,14 +9,16 @@ use lib.Signed.{mag}
 use lib.Ieee.{Float, binary64, fits, isNan, toBits, eq}
 use Rattle.float.specs.Integers.{bit}
 use Rattle.float.specs.Order.{f64Zero}
-use Rattle.le.specs.Fields.{fieldBytes, u64Bytes}
+use Rattle.le.specs.Fields.{byteAt, fieldBytes, u64Bytes}
 use Rattle.signed.specs.Signed.{unsigned}
 use Rattle.le.specs.Integers.{i32Bytes, i64Bytes}
-use Rattle.scalar_bytes.specs.Reading.{float64Lawful}
+use Rattle.layout.specs.Places.{scalarSize, decimalDigitsSize}
+use Rattle.scalar_bytes.specs.Reading.{tagAllowed, float64Lawful}
 use Rattle.scalar.specs.declared.Scalar.{Scalar}
 use Rattle.scalar.specs.declared.Scalar.the-variants.{Null, Boolean, Int32, Int64, Float64, Decimal128, Date32, IntervalMonthDayNano, IntervalDayTime}
 use Rattle.scalar.specs.declared.Bound.{Bound}
 use Rattle.scalar.specs.declared.Bound.the-variants.{Absent, Present}
+use Rattle.scalar_bytes.specs.declared.reads.ScalarPlace.{ScalarPlace}
 
 -- ---- the bytes
 
@@ -32,7 +34,7 @@ encodedBytes (Boolean b) = 1 ∷ bit b ∷ []
 encodedBytes (Int32 x) = 2 ∷ i32Bytes x
 encodedBytes (Int64 x) = 3 ∷ i64Bytes x
 encodedBytes (Float64 x) = 4 ∷ u64Bytes (encodedBits x)
-encodedBytes (Decimal128 value precision scale) = 5 ∷ precision ∷ scale ∷ fieldBytes 16 (unsigned 16 value)
+encodedBytes (Decimal128 value precision scale) = 5 ∷ precision ∷ scale ∷ fieldBytes decimalDigitsSize (unsigned decimalDigitsSize value)
 encodedBytes (Date32 x) = 6 ∷ i32Bytes x
 encodedBytes (IntervalMonthDayNano months days nanoseconds) = 8 ∷ (i32Bytes months ++ (i32Bytes days ++ i64Bytes nanoseconds))
 encodedBytes (IntervalDayTime days milliseconds) = 9 ∷ (i32Bytes days ++ i32Bytes milliseconds)
@@ -43,7 +45,7 @@ extension (pos x) = 0
 extension (negsuc x) = 0xffff_ffff_ffff_ffff
 
 abbrev pub padded : List ℕ → List ℕ
-padded bs = bs ++ replicate (19 - length bs) 0
+padded bs = bs ++ replicate (scalarSize - length bs) 0
 
 abbrev pub scalarBytes : Scalar → List ℕ
 scalarBytes x = padded (encodedBytes x)
@@ -75,3 +77,9 @@ unfoldable pub lawfulBound : Bound → Bool
 unfolding lawfulScalar
 lawfulBound Absent = true
 lawfulBound (Present x) = lawfulScalar x
+
+-- ---- where a bound may stand: by the tag that is written
+
+unfoldable pub placeAllows : ScalarPlace → Bound → Bool
+unfolding boundBytes encodedBytes fieldBytes
+placeAllows place b = tagAllowed place (byteAt (boundBytes b) 0)

@@ -4,12 +4,20 @@ ghost use mathlib.Core.List.{_∷_, _++_, []};
 ghost use Prim.Native.Nat.{_≤_};
 ghost use lib.ListN.{length, replicate};
 ghost use Rattle.float.specs.Integers.{bit};
+ghost use Rattle.layout.specs.Places.{scalarSize, decimalDigitsSize};
 ghost use Rattle.le.specs.Fields.{onto, fieldBytes, u64Bytes};
 ghost use Rattle.signed.specs.Signed.{unsigned};
 ghost use Rattle.le.specs.Integers.{i32Bytes, i64Bytes};
 ghost use Rattle.scalar_bytes.specs.Encoding.{encodedBits, extension, encodedBytes, padded, scalarBytes, boundBytes};
 use float::bits::bits_of_float;
 use float::integers::one_if;
+use layout::DAY_TIME_MILLISECONDS_OFFSET;
+use layout::DECIMAL_DIGITS_OFFSET;
+use layout::DECIMAL_SCALE_OFFSET;
+use layout::INT64_SIZE;
+use layout::MONTH_DAY_NANO_DAYS_OFFSET;
+use layout::MONTH_DAY_NANO_NANOSECONDS_OFFSET;
+use layout::SCALAR_VALUE_OFFSET;
 use le::integers::put_i32;
 use le::integers::put_i64;
 use le::writes::put_byte;
@@ -18,9 +26,22 @@ use le::writes::put_u64;
 use scalar::Bound;
 use scalar::Scalar;
 
+// Parts of a value, from the scalar's first byte.
+const SCALE_AT: usize = SCALAR_VALUE_OFFSET + DECIMAL_SCALE_OFFSET;
+
+const DIGITS_AT: usize = SCALAR_VALUE_OFFSET + DECIMAL_DIGITS_OFFSET;
+
+const EXTENSION_AT: usize = DIGITS_AT + INT64_SIZE;
+
+const DAYS_AT: usize = SCALAR_VALUE_OFFSET + MONTH_DAY_NANO_DAYS_OFFSET;
+
+const NANOSECONDS_AT: usize = SCALAR_VALUE_OFFSET + MONTH_DAY_NANO_NANOSECONDS_OFFSET;
+
+const MILLISECONDS_AT: usize = SCALAR_VALUE_OFFSET + DAY_TIME_MILLISECONDS_OFFSET;
+
 fn put_zeros(out: &mut [u8])
-    requires { ⌜ 19 ≤ length (now out) ⌝ }
-    ensures { λ _. ⌜ now (out .exit) ≡ onto (replicate 19 0) (now (out .entry)) ⌝ }
+    requires { ⌜ scalarSize ≤ length (now out) ⌝ }
+    ensures { λ _. ⌜ now (out .exit) ≡ onto (replicate scalarSize 0) (now (out .entry)) ⌝ }
 {
     put_u64(out, 0);
     put_u64(&mut out[8..], 0);
@@ -29,27 +50,27 @@ fn put_zeros(out: &mut [u8])
 }
 
 fn put_boolean(out: &mut [u8], b: bool)
-    requires { ⌜ 19 ≤ length (now out) ⌝ }
+    requires { ⌜ scalarSize ≤ length (now out) ⌝ }
     ensures { λ _. ⌜ now (out .exit) ≡ onto (1 ∷ bit b ∷ []) (now (out .entry)) ⌝ }
 {
     put_byte(out, 1);
-    put_byte(&mut out[1..], one_if(b));
+    put_byte(&mut out[SCALAR_VALUE_OFFSET..], one_if(b));
 }
 
 fn put_int32(out: &mut [u8], tag: u8, x: i32)
-    requires { ⌜ 19 ≤ length (now out) ⌝ }
+    requires { ⌜ scalarSize ≤ length (now out) ⌝ }
     ensures { λ _. ⌜ now (out .exit) ≡ onto (tag ∷ i32Bytes x) (now (out .entry)) ⌝ }
 {
     put_byte(out, tag);
-    put_i32(&mut out[1..], x);
+    put_i32(&mut out[SCALAR_VALUE_OFFSET..], x);
 }
 
 fn put_int64(out: &mut [u8], x: i64)
-    requires { ⌜ 19 ≤ length (now out) ⌝ }
+    requires { ⌜ scalarSize ≤ length (now out) ⌝ }
     ensures { λ _. ⌜ now (out .exit) ≡ onto (3 ∷ i64Bytes x) (now (out .entry)) ⌝ }
 {
     put_byte(out, 3);
-    put_i64(&mut out[1..], x);
+    put_i64(&mut out[SCALAR_VALUE_OFFSET..], x);
 }
 
 // +0 for either zero, and one pattern for every NaN.
@@ -66,11 +87,11 @@ fn encoded_bits(x: f64) -> u64
 }
 
 fn put_float64(out: &mut [u8], x: f64)
-    requires { ⌜ 19 ≤ length (now out) ⌝ }
+    requires { ⌜ scalarSize ≤ length (now out) ⌝ }
     ensures { λ _. ⌜ now (out .exit) ≡ onto (4 ∷ u64Bytes (encodedBits x)) (now (out .entry)) ⌝ }
 {
     put_byte(out, 4);
-    put_u64(&mut out[1..], encoded_bits(x));
+    put_u64(&mut out[SCALAR_VALUE_OFFSET..], encoded_bits(x));
 }
 
 // The upper eight bytes of a number of 64 bits in sixteen.
@@ -81,35 +102,35 @@ fn extension(x: i64) -> u64
 }
 
 fn put_decimal(out: &mut [u8], value: i64, precision: u8, scale: u8)
-    requires { ⌜ 19 ≤ length (now out) ⌝ }
-    ensures { λ _. ⌜ now (out .exit) ≡ onto (5 ∷ precision ∷ scale ∷ fieldBytes 16 (unsigned 16 value)) (now (out .entry)) ⌝ }
+    requires { ⌜ scalarSize ≤ length (now out) ⌝ }
+    ensures { λ _. ⌜ now (out .exit) ≡ onto (5 ∷ precision ∷ scale ∷ fieldBytes decimalDigitsSize (unsigned decimalDigitsSize value)) (now (out .entry)) ⌝ }
 {
     put_byte(out, 5);
-    put_byte(&mut out[1..], precision);
-    put_byte(&mut out[2..], scale);
-    put_i64(&mut out[3..], value);
-    put_u64(&mut out[11..], extension(value));
+    put_byte(&mut out[SCALAR_VALUE_OFFSET..], precision);
+    put_byte(&mut out[SCALE_AT..], scale);
+    put_i64(&mut out[DIGITS_AT..], value);
+    put_u64(&mut out[EXTENSION_AT..], extension(value));
 }
 
 fn put_month_day_nano(out: &mut [u8], months: i32, days: i32, nanoseconds: i64)
-    requires { ⌜ 19 ≤ length (now out) ⌝ }
+    requires { ⌜ scalarSize ≤ length (now out) ⌝ }
     ensures { λ _. ⌜ now (out .exit) ≡ onto (8 ∷ (i32Bytes months ++ (i32Bytes days ++ i64Bytes nanoseconds))) (now (out .entry)) ⌝ }
 {
     put_int32(out, 8, months);
-    put_i32(&mut out[5..], days);
-    put_i64(&mut out[9..], nanoseconds);
+    put_i32(&mut out[DAYS_AT..], days);
+    put_i64(&mut out[NANOSECONDS_AT..], nanoseconds);
 }
 
 fn put_day_time(out: &mut [u8], days: i32, milliseconds: i32)
-    requires { ⌜ 19 ≤ length (now out) ⌝ }
+    requires { ⌜ scalarSize ≤ length (now out) ⌝ }
     ensures { λ _. ⌜ now (out .exit) ≡ onto (9 ∷ (i32Bytes days ++ i32Bytes milliseconds)) (now (out .entry)) ⌝ }
 {
     put_int32(out, 9, days);
-    put_i32(&mut out[5..], milliseconds);
+    put_i32(&mut out[MILLISECONDS_AT..], milliseconds);
 }
 
 fn put_encoded(out: &mut [u8], x: Scalar)
-    requires { ⌜ 19 ≤ length (now out) ⌝ }
+    requires { ⌜ scalarSize ≤ length (now out) ⌝ }
     ensures { λ _. ⌜ now (out .exit) ≡ onto (encodedBytes x) (now (out .entry)) ⌝ }
 {
     match x {
@@ -134,7 +155,7 @@ fn put_encoded(out: &mut [u8], x: Scalar)
 }
 
 pub fn put_scalar(out: &mut [u8], x: Scalar)
-    requires { ⌜ 19 ≤ length (now out) ⌝ }
+    requires { ⌜ scalarSize ≤ length (now out) ⌝ }
     ensures { λ _. ⌜ now (out .exit) ≡ onto (scalarBytes x) (now (out .entry)) ⌝ }
 {
     put_zeros(out);
@@ -142,7 +163,7 @@ pub fn put_scalar(out: &mut [u8], x: Scalar)
 }
 
 pub fn put_bound(out: &mut [u8], x: Bound)
-    requires { ⌜ 19 ≤ length (now out) ⌝ }
+    requires { ⌜ scalarSize ≤ length (now out) ⌝ }
     ensures { λ _. ⌜ now (out .exit) ≡ onto (boundBytes x) (now (out .entry)) ⌝ }
 {
     match x {
@@ -152,7 +173,7 @@ pub fn put_bound(out: &mut [u8], x: Bound)
 }
 
 fn put_absent(out: &mut [u8])
-    requires { ⌜ 19 ≤ length (now out) ⌝ }
+    requires { ⌜ scalarSize ≤ length (now out) ⌝ }
     ensures { λ _. ⌜ now (out .exit) ≡ onto (padded (255 ∷ [])) (now (out .entry)) ⌝ }
 {
     put_zeros(out);

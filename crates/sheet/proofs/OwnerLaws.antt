@@ -8,19 +8,23 @@ use lib.Dec.{eqb}
 use lib.ListN.{getD, set}
 use borrow.Author.Tests.{eqb-true}
 use Rattle.le.specs.Fields.{u16At}
+use Rattle.layout.specs.Places.{countSize, expressionSize}
 use Rattle.rules.specs.Rules.{ask}
 use Rattle.rules.proofs.RuleLaws.{ask-kept, else-second, each-kept}
-use Rattle.record_rules.specs.Fields.{whole}
+use Rattle.layout.specs.Fields.{whole}
 use Rattle.expression_rules.specs.Expressions.{expressionRefusal}
-use Rattle.expression_rules.specs.Operands.{expressionPlace, runsBefore, naryOf, RunsFollow, operandRefusal}
+use Rattle.expression_rules.specs.Operands.{expressionPlace, runsBefore, naryOf, RunsFollow, fillRefusal, operandRefusal}
 use Rattle.expression_rules.proofs.RunLaws.{Holds, owner-holds}
 use Rattle.expression_rules.proofs.RoomLaws.{runs-follow}
-use Rattle.sheet.specs.Order.{kindAt, sectionAt}
+use Rattle.sheet.specs.Table.{sectionOf}
+use Rattle.sheet.specs.Order.{kindAt, rowsNumber, settingsNumber, sketchesNumber, tablesNumber, keysNumber, leftColumnsNumber, rightColumnsNumber, leftClassesNumber, rightClassesNumber, expressionsNumber, operandsNumber, sectionAt}
 use Rattle.sheet.specs.Check.{refusalIn, sheetRefusal}
-use Rattle.sheet.specs.Rules.{countWithin, fillRefusal, countRefusal, recordRefusal, recordsRefusal, sectionRefusal}
+use Rattle.sheet.specs.Rules.{countWithin, countRefusal, recordRefusal, recordsRefusal, sectionRefusal}
 use Rattle.sheet.specs.Walk.{RunsKnown}
 use Rattle.sheet.specs.declared.order.Kind.{Kind}
 use Rattle.sheet.specs.declared.order.Kind.the-variants.{Rows, Settings, Sketches, Tables, Keys, Columns, Classes, Expressions, Operands, Conjuncts}
+use Rattle.sheet.specs.declared.table.Tally.{Tally}
+use Rattle.sheet.specs.declared.table.Tally.the-variants.{Nothing, Items, Runs, Owner}
 use Rattle.sheet.proofs.PlaceLaws.{fixed-place, expressions-fixed, startsBefore}
 use Rattle.sheet.proofs.AcceptedLaws.{accepted-section, accepted-count, accepted-record}
 
@@ -28,14 +32,14 @@ module _ (s : List ℕ) (sketches x start : ℕ) where
   expressions-kept : sectionRefusal Expressions s sketches x x ≡ 0 → (e : ℕ) → e < u16At s x → expressionRefusal s (runsBefore s x e) e (expressionPlace x e) ≡ 0
   unfolding sectionRefusal recordRefusal
   expressions-kept k e l =
-      ap (expressionRefusal s (runsBefore s x e) e) (sym (fixed-place Expressions 25 expressions-fixed s x e))
+      ap (expressionRefusal s (runsBefore s x e) e) (sym (fixed-place Expressions expressionSize expressions-fixed s x e))
       ∙ each-kept (recordsRefusal Expressions s sketches x x) (u16At s x) (else-second (countRefusal Expressions s x x) _ k) e l
 
   runs-filled : countRefusal Operands s x start ≡ 0 → u16At s start ≡ runsBefore s x (u16At s x)
   unfolding countRefusal fillRefusal
   runs-filled k =
       let n : ℕ = u16At s start in
-      let within = else-second (whole 2 s start) _ k in
+      let within = else-second (whole countSize s start) _ k in
       let fill = else-second (ask (countWithin Operands n) 3) _ within in
       eqb-true n (runsBefore s x (u16At s x)) (ask-kept (eqb n (runsBefore s x (u16At s x))) 9 (omega arith) fill)
 
@@ -46,58 +50,63 @@ module _ (s : List ℕ) (sketches x start : ℕ) where
   pub operand-owner : sectionRefusal Expressions s sketches x x ≡ 0 → countRefusal Operands s x start ≡ 0 → (i : ℕ) → i < u16At s start → Holds s x i (naryOf s x i)
   operand-owner k c i l = owner-holds s x i (runs-kept k) (subst (λ (n : ℕ). i < n) (runs-filled c) l)
 
--- ---- the operands are section 10, and section 9 has been judged before it
+-- ---- the expressions have been judged before the operands
 
-isOperands : Kind → Bool
-isOperands Rows = false
-isOperands Settings = false
-isOperands Sketches = false
-isOperands Tables = false
-isOperands Keys = false
-isOperands Columns = false
-isOperands Classes = false
-isOperands Expressions = false
-isOperands Operands = true
-isOperands Conjuncts = false
+isOwner : Tally → Bool
+isOwner Nothing = false
+isOwner Items = false
+isOwner Runs = false
+isOwner Owner = true
 
-operands-number : (k : ℕ) → kindAt k ≡ Operands → k ≡ 10
-unfolding isOperands
-operands-number k e = eqb-true k 10 (last (eqb k 10) (past (eqb k 9) Expressions refl (past (eqb k 8) Classes refl (past (eqb k 7) Classes refl (past (eqb k 6) Columns refl (past (eqb k 5) Columns refl (past (eqb k 4) Keys refl (past (eqb k 3) Tables refl (past (eqb k 2) Sketches refl (past (eqb k 1) Settings refl (past (eqb k 0) Rows refl e)))))))))))
+operands-number : (k : ℕ) → sectionOf (kindAt k) .tally ≡ Owner → k ≡ operandsNumber
+unfolding isOwner
+operands-number k e =
+    eqb-true k operandsNumber (last (eqb k operandsNumber)
+    (past (eqb k expressionsNumber) Expressions _ refl
+    (past (eqb k rightClassesNumber) Classes _ refl
+    (past (eqb k leftClassesNumber) Classes _ refl
+    (past (eqb k rightColumnsNumber) Columns _ refl
+    (past (eqb k leftColumnsNumber) Columns _ refl
+    (past (eqb k keysNumber) Keys _ refl
+    (past (eqb k tablesNumber) Tables _ refl
+    (past (eqb k sketchesNumber) Sketches _ refl
+    (past (eqb k settingsNumber) Settings _ refl
+    (past (eqb k rowsNumber) Rows _ refl e)))))))))))
   where
-    past : {y : Kind} (b : Bool) (x : Kind) → isOperands x ≡ false → cond b x y ≡ Operands → y ≡ Operands
-    past true x h e = absurd (false≢true (sym h ∙ ap isOperands e))
-    past false x h e = e
+    past : (b : Bool) (x y : Kind) → isOwner (sectionOf x .tally) ≡ false → sectionOf (cond b x y) .tally ≡ Owner → sectionOf y .tally ≡ Owner
+    past true x y h e = absurd (false≢true (sym h ∙ ap isOwner e))
+    past false x y h e = e
 
-    last : (b : Bool) → cond b Operands Conjuncts ≡ Operands → b ≡ true
+    last : (b : Bool) → sectionOf (cond b Operands Conjuncts) .tally ≡ Owner → b ≡ true
     last true e = refl
-    last false e = absurd (false≢true (ap isOperands e))
+    last false e = absurd (false≢true (ap isOwner e))
 
-starts-nine : (s : List ℕ) (at : ℕ) → getD (set (startsBefore s 10) 10 at) 9 0 ≡ sectionAt s 9
+starts-expressions : (s : List ℕ) (at : ℕ) → getD (set (startsBefore s operandsNumber) operandsNumber at) expressionsNumber 0 ≡ sectionAt s expressionsNumber
 unfolding startsBefore
-starts-nine s at = refl
+starts-expressions s at = refl
 
-nine-kept : (s : List ℕ) → refusalIn s 9 ≡ 0 → RunsFollow s (sectionAt s 9)
+follow-kept : (s : List ℕ) → refusalIn s expressionsNumber ≡ 0 → RunsFollow s (sectionAt s expressionsNumber)
 unfolding refusalIn
-nine-kept s h = runs-kept s (sectionAt s 2) (sectionAt s 9) (sectionAt s 9) h
+follow-kept s h = runs-kept s (sectionAt s sketchesNumber) (sectionAt s expressionsNumber) (sectionAt s expressionsNumber) h
 
 -- section k, by the starts noted so far, where those before it are kept
-pub runs-known : (s starts : List ℕ) (at k : ℕ) (kind : Kind) → starts ≡ startsBefore s k → kind ≡ kindAt k → ((j : ℕ) → j < k → refusalIn s j ≡ 0) → RunsKnown kind s (getD (set starts k at) 9 0)
+pub runs-known : (s starts : List ℕ) (at k : ℕ) (kind : Kind) → starts ≡ startsBefore s k → kind ≡ kindAt k → ((j : ℕ) → j < k → refusalIn s j ≡ 0) → RunsKnown kind s (getD (set starts k at) expressionsNumber 0)
 runs-known s starts at k kind a e kept is =
-    let ten : k ≡ 10 = operands-number k (sym e ∙ is) in
-    let nine : refusalIn s 9 ≡ 0 = kept 9 (omega arith) in
-    let there : getD (set starts k at) 9 0 ≡ sectionAt s 9 = (λ i. getD (set ((a ∙ ap (startsBefore s) ten) i) (ten i) at) 9 0) ∙ starts-nine s at in
-    subst (λ (x : ℕ). RunsFollow s x) (sym there) (nine-kept s nine)
+    let here : k ≡ operandsNumber = operands-number k (ap (λ (x : Kind). sectionOf x .tally) (sym e) ∙ is) in
+    let before : refusalIn s expressionsNumber ≡ 0 = kept expressionsNumber (omega arith) in
+    let there : getD (set starts k at) expressionsNumber 0 ≡ sectionAt s expressionsNumber = (λ i. getD (set ((a ∙ ap (startsBefore s) here) i) (here i) at) expressionsNumber 0) ∙ starts-expressions s at in
+    subst (λ (x : ℕ). RunsFollow s x) (sym there) (follow-kept s before)
 
--- ---- of an accepted sheet: the expressions are section 9 and the operands section 10
+-- ---- of an accepted sheet
 
 module _ (s : List ℕ) (kept : sheetRefusal s ≡ 0) where
-  pub accepted-expression : (e : ℕ) → e < u16At s (sectionAt s 9) → expressionRefusal s (runsBefore s (sectionAt s 9) e) e (expressionPlace (sectionAt s 9) e) ≡ 0
+  pub accepted-expression : (e : ℕ) → e < u16At s (sectionAt s expressionsNumber) → expressionRefusal s (runsBefore s (sectionAt s expressionsNumber) e) e (expressionPlace (sectionAt s expressionsNumber) e) ≡ 0
   unfolding refusalIn
-  accepted-expression = expressions-kept s (sectionAt s 2) (sectionAt s 9) (sectionAt s 10) (accepted-section s kept 9 (omega arith))
+  accepted-expression = expressions-kept s (sectionAt s sketchesNumber) (sectionAt s expressionsNumber) (sectionAt s operandsNumber) (accepted-section s kept expressionsNumber (omega arith))
 
-  pub accepted-runs : u16At s (sectionAt s 10) ≡ runsBefore s (sectionAt s 9) (u16At s (sectionAt s 9))
-  accepted-runs = runs-filled s (sectionAt s 2) (sectionAt s 9) (sectionAt s 10) (accepted-count s kept 10 (omega arith))
+  pub accepted-runs : u16At s (sectionAt s operandsNumber) ≡ runsBefore s (sectionAt s expressionsNumber) (u16At s (sectionAt s expressionsNumber))
+  accepted-runs = runs-filled s (sectionAt s sketchesNumber) (sectionAt s expressionsNumber) (sectionAt s operandsNumber) (accepted-count s kept operandsNumber (omega arith))
 
-  pub accepted-operand : (i : ℕ) → i < u16At s (sectionAt s 10) → operandRefusal s (sectionAt s 9) (naryOf s (sectionAt s 9) i) (sectionAt s 10 + 2) i ≡ 0
+  pub accepted-operand : (i : ℕ) → i < u16At s (sectionAt s operandsNumber) → operandRefusal s (sectionAt s expressionsNumber) (naryOf s (sectionAt s expressionsNumber) i) (sectionAt s operandsNumber + countSize) i ≡ 0
   unfolding recordRefusal
-  accepted-operand i l = accepted-record s kept 10 (omega arith) i l
+  accepted-operand i l = accepted-record s kept operandsNumber (omega arith) i l

@@ -5,13 +5,15 @@ use mathlib.Core.List.{List}
 use lib.ListN.{length}
 use native.Mathlib.Omega.{arith}
 use Rattle.le.specs.Fields.{u16At}
+use Rattle.layout.specs.Places.{countSize, numberSize}
 use Rattle.rules.proofs.RuleLaws.{else-first, else-second, each-kept}
 use Rattle.expression_rules.specs.Operands.{runsBefore, naryOf}
 use Rattle.expression_rules.proofs.RoomLaws.{expression-room, operand-room, conjunct-room}
-use Rattle.record_rules.specs.Fields.{whole}
-use Rattle.record_rules.proofs.RoomLaws.{whole-room, rows-room, setting-room, table-room, key-room, column-room, class-room}
+use Rattle.layout.specs.Fields.{whole}
+use Rattle.layout.proofs.LayoutLaws.{whole-room}
+use Rattle.record_rules.proofs.RoomLaws.{rows-room, setting-room, table-room, key-room, column-room, class-room}
 use Rattle.sketch_rules.proofs.RoomLaws.{sketch-room}
-use Rattle.sheet.specs.Order.{kindAt, recordEnd, recordAt, sectionAt}
+use Rattle.sheet.specs.Order.{kindAt, sketchesNumber, expressionsNumber, recordEnd, recordAt, sectionAt}
 use Rattle.sheet.specs.Rules.{itemsBefore, countRefusal, recordRefusal, recordsRefusal, sectionRefusal}
 use Rattle.sheet.specs.Check.{refusalIn}
 use Rattle.sheet.specs.declared.order.Kind.{Kind}
@@ -30,13 +32,13 @@ module _ (s : List ℕ) (sketches expressions start i : ℕ) where
   record-room Classes e = class-room s (recordAt Classes s start i) e
   record-room Expressions e = expression-room s (runsBefore s start i) i (recordAt Expressions s start i) e
   record-room Operands e =
-      subst (λ (at : ℕ). at + 2 ≤ length s) (sym (fixed-place Operands 2 operands-fixed s start i))
-      (operand-room s expressions (naryOf s expressions i) (start + 2) i e)
+      subst (λ (at : ℕ). at + numberSize ≤ length s) (sym (fixed-place Operands numberSize operands-fixed s start i))
+      (operand-room s expressions (naryOf s expressions i) (start + countSize) i e)
   record-room Conjuncts e = conjunct-room s expressions (recordAt Conjuncts s start i) e
 
-pub count-room : (kind : Kind) (s : List ℕ) (expressions start : ℕ) → countRefusal kind s expressions start ≡ 0 → start + 2 ≤ length s
+pub count-room : (kind : Kind) (s : List ℕ) (expressions start : ℕ) → countRefusal kind s expressions start ≡ 0 → start + countSize ≤ length s
 unfolding countRefusal
-count-room kind s expressions start e = whole-room 2 s start (omega arith) (else-first (whole 2 s start) _ e)
+count-room kind s expressions start e = whole-room countSize s start (omega arith) (else-first (whole countSize s start) _ e)
 
 -- the section behind one that keeps its rules stands within the sheet, or at its end
 pub section-room : (kind : Kind) (s : List ℕ) (sketches expressions start : ℕ) → sectionRefusal kind s sketches expressions start ≡ 0 → recordAt kind s start (u16At s start) ≤ length s
@@ -44,7 +46,7 @@ unfolding sectionRefusal recordAt
 section-room kind s sketches expressions start e =
     go (u16At s start) (each-kept (recordsRefusal kind s sketches expressions start) (u16At s start) (else-second (countRefusal kind s expressions start) _ e))
   where
-    count : start + 2 ≤ length s
+    count : start + countSize ≤ length s
     count = count-room kind s expressions start (else-first (countRefusal kind s expressions start) _ e)
 
     less : (n : ℕ) → n < suc n
@@ -56,4 +58,4 @@ section-room kind s sketches expressions start e =
 
 pub next-room : (s : List ℕ) (k : ℕ) → refusalIn s k ≡ 0 → sectionAt s (k + 1) ≤ length s
 unfolding refusalIn
-next-room s k e = subst (λ (at : ℕ). at ≤ length s) (section-next s k) (section-room (kindAt k) s (sectionAt s 2) (sectionAt s 9) (sectionAt s k) e)
+next-room s k e = subst (λ (at : ℕ). at ≤ length s) (section-next s k) (section-room (kindAt k) s (sectionAt s sketchesNumber) (sectionAt s expressionsNumber) (sectionAt s k) e)

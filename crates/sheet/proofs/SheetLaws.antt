@@ -4,6 +4,7 @@ use mathlib.Core.Path.{_≡_, ap, _∙_}
 use mathlib.Core.List.{List, List·Memᴰ}
 use lib.ListN.{length, getD}
 use Rattle.le.specs.Fields.{u16At}
+use Rattle.layout.specs.Places.{countSize}
 use Rattle.records.proofs.ListLaws.{tabulate-length, tabulate-at, tabulate-in}
 use Rattle.sheet.specs.Order.{recordAt}
 use Rattle.sheet.specs.Sheet.{recordIn, recordsIn}
@@ -20,7 +21,7 @@ module _ {ℓ} {A : Type ℓ} (kind : Kind) (read : List ℕ → ℕ → A) (s :
   record-at i d h = tabulate-at (recordIn kind read s start) (u16At s start) i d h
 
   -- of records that are w bytes long
-  pub fixed-record-at : (w : ℕ) → Fixed kind w → (i : ℕ) (d : A) → i < u16At s start → getD (recordsIn kind read s start) i d ≡ read s (start + 2 + w * i)
+  pub fixed-record-at : (w : ℕ) → Fixed kind w → (i : ℕ) (d : A) → i < u16At s start → getD (recordsIn kind read s start) i d ≡ read s (start + countSize + w * i)
   fixed-record-at w f i d h = record-at i d h ∙ ap (read s) (fixed-place kind w f s start i)
 
   -- and there are no others

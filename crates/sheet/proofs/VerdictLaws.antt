@@ -7,9 +7,10 @@ use lib.Dec.{eqb}
 use lib.ListN.{length, getD, set}
 use borrow.Author.Tests.{lt-leb, le-leb}
 use Rattle.le.specs.Fields.{u16At}
+use Rattle.layout.specs.Places.{sheetLimit}
 use Rattle.rules.specs.Rules.{ask, orElse, firstRefusal}
 use Rattle.rules.proofs.RuleLaws.{else-broken, else-kept}
-use Rattle.sheet.specs.Order.{kindAt, recordAt, sectionAt, sectionsIn}
+use Rattle.sheet.specs.Order.{kindAt, sectionCount, sketchesNumber, expressionsNumber, recordAt, sectionAt, sectionsIn}
 use Rattle.sheet.specs.Rules.{sectionRefusal}
 use Rattle.sheet.specs.Check.{refusalIn, sheetRefusal, verdict, check}
 use Rattle.sheet.specs.Walk.{reached}
@@ -50,29 +51,29 @@ end-back n zero at e = (refl, cc)
 end-back n (suc m) at e = let z : _≡_ {A = ℕ} 0 1 = cc in absurd (no z)
 
 -- section k, by the starts noted so far
-pub section-told : (s starts : List ℕ) (at k : ℕ) (kind : Kind) (r : Reached) → starts ≡ startsBefore s k → at ≡ sectionAt s k → k < 12 → kind ≡ kindAt k
-    → r ≡ reached (sectionRefusal kind s (getD (set starts k at) 2 0) (getD (set starts k at) 9 0) at) (recordAt kind s at (u16At s at))
+pub section-told : (s starts : List ℕ) (at k : ℕ) (kind : Kind) (r : Reached) → starts ≡ startsBefore s k → at ≡ sectionAt s k → k < sectionCount → kind ≡ kindAt k
+    → r ≡ reached (sectionRefusal kind s (getD (set starts k at) sketchesNumber 0) (getD (set starts k at) expressionsNumber 0) at) (recordAt kind s at (u16At s at))
     → r ≡ reached (refusalIn s k) (sectionAt s (k + 1))
 unfolding startsBefore
 section-told s starts at k kind r a b l e h = h ∙ rw (e, a, b, sym (section-next s k), noted s k l) refl
 
 -- ---- the sheet
 
-pub sheet-long : (s : List ℕ) → 65535 < length s → Refused 1 ≡ check s
+pub sheet-long : (s : List ℕ) → sheetLimit < length s → Refused 1 ≡ check s
 unfolding check sheetRefusal
 sheet-long s h = rw (lt-leb _ _ h) refl
 
-sheet-rest : (s : List ℕ) → length s ≤ 65535 → orElse (firstRefusal (refusalIn s) 0 12) (ask (eqb (sectionAt s 12) (length s)) 10) ≡ sheetRefusal s
+sheet-rest : (s : List ℕ) → length s ≤ sheetLimit → orElse (firstRefusal (refusalIn s) 0 sectionCount) (ask (eqb (sectionAt s sectionCount) (length s)) 10) ≡ sheetRefusal s
 unfolding sheetRefusal
-sheet-rest s h = rw (le-leb _ 65535 h) refl
+sheet-rest s h = rw (le-leb _ sheetLimit h) refl
 
-pub sheet-broken : (s : List ℕ) (n : ℕ) → length s ≤ 65535 → n ≡ firstRefusal (refusalIn s) 0 12 → (n ≡ 0 → ⊥) → Refused n ≡ check s
+pub sheet-broken : (s : List ℕ) (n : ℕ) → length s ≤ sheetLimit → n ≡ firstRefusal (refusalIn s) 0 sectionCount → (n ≡ 0 → ⊥) → Refused n ≡ check s
 unfolding check
 sheet-broken s n h e b =
     verdict-refused n (sectionsIn s) b
-    ∙ ap (λ (k : ℕ). verdict k (sectionsIn s)) (e ∙ (sym (else-broken (firstRefusal (refusalIn s) 0 12) (ask (eqb (sectionAt s 12) (length s)) 10) (λ z. b (e ∙ z))) ∙ sheet-rest s h))
+    ∙ ap (λ (k : ℕ). verdict k (sectionsIn s)) (e ∙ (sym (else-broken (firstRefusal (refusalIn s) 0 sectionCount) (ask (eqb (sectionAt s sectionCount) (length s)) 10) (λ z. b (e ∙ z))) ∙ sheet-rest s h))
 
-pub sheet-end : (s : List ℕ) (at : ℕ) (x : Sections) → length s ≤ 65535 → 0 ≡ firstRefusal (refusalIn s) 0 12 → at ≡ sectionAt s 12 → x ≡ sectionsIn s → verdict (ask (eqb at (length s)) 10) x ≡ check s
+pub sheet-end : (s : List ℕ) (at : ℕ) (x : Sections) → length s ≤ sheetLimit → 0 ≡ firstRefusal (refusalIn s) 0 sectionCount → at ≡ sectionAt s sectionCount → x ≡ sectionsIn s → verdict (ask (eqb at (length s)) 10) x ≡ check s
 unfolding check
 sheet-end s at x h e a y =
-    rw (a, y) (ap (λ (k : ℕ). verdict k (sectionsIn s)) (sym (else-kept (firstRefusal (refusalIn s) 0 12) (ask (eqb (sectionAt s 12) (length s)) 10) (sym e)) ∙ sheet-rest s h))
+    rw (a, y) (ap (λ (k : ℕ). verdict k (sectionsIn s)) (sym (else-kept (firstRefusal (refusalIn s) 0 sectionCount) (ask (eqb (sectionAt s sectionCount) (length s)) 10) (sym e)) ∙ sheet-rest s h))

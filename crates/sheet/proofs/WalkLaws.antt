@@ -5,27 +5,39 @@ use mathlib.Core.List.{List}
 use native.Mathlib.Omega.{arith}
 use native.Mathlib.Numerals.{add-one}
 use Rattle.le.specs.Fields.{u16At}
-use Rattle.expression_rules.specs.Operands.{runLength, runsBefore, naryFrom, naryOf, RunsFollow}
-use Rattle.expression_rules.proofs.RunLaws.{runs-step, owner-next, owner-within}
+use Rattle.layout.specs.Places.{sketchCountOffset, expressionSize}
+use Rattle.expression_rules.specs.Operands.{runsBefore, naryFrom, naryOf, RunsFollow}
+use Rattle.expression_rules.proofs.RunLaws.{owner-next, owner-within}
+use Rattle.sheet.specs.Table.{sectionOf}
 use Rattle.sheet.specs.Order.{recordAt}
 use Rattle.sheet.specs.Rules.{itemsBefore, recordRefusal, recordsRefusal}
-use Rattle.sheet.specs.Walk.{ownerBefore, RunsKnown, tallyBefore}
+use Rattle.sheet.specs.Walk.{RunsKnown, OwnerWithin, nextTally, tallyBefore}
 use Rattle.sheet.specs.declared.order.Kind.{Kind}
-use Rattle.sheet.specs.declared.order.Kind.the-variants.{Rows, Settings, Sketches, Tables, Keys, Columns, Classes, Expressions, Operands, Conjuncts}
+use Rattle.sheet.specs.declared.order.Kind.the-variants.{Sketches, Expressions, Operands}
+use Rattle.sheet.specs.declared.table.Tally.{Tally}
+use Rattle.sheet.specs.declared.table.Tally.the-variants.{Owner}
 use Rattle.sheet.proofs.PlaceLaws.{fixed-place, expressions-fixed}
 
-pub tally-first : (kind : Kind) (s : List ℕ) (expressions start : ℕ) → 0 ≡ tallyBefore kind s expressions start 0
-unfolding tallyBefore itemsBefore runsBefore ownerBefore
-tally-first Rows s expressions start = refl
-tally-first Settings s expressions start = refl
-tally-first Sketches s expressions start = refl
-tally-first Tables s expressions start = refl
-tally-first Keys s expressions start = refl
-tally-first Columns s expressions start = refl
-tally-first Classes s expressions start = refl
-tally-first Expressions s expressions start = refl
-tally-first Operands s expressions start = refl
-tally-first Conjuncts s expressions start = refl
+pub tally-next : (kind : Kind) (s : List ℕ) (expressions start i t at : ℕ) → t ≡ tallyBefore kind s expressions start i → at ≡ recordAt kind s start i → nextTally (sectionOf kind .tally) s expressions t i at ≡ tallyBefore kind s expressions start (i + 1)
+unfolding tallyBefore
+tally-next kind s expressions start i t at e h = rw (e, h, add-one) refl
+
+-- ---- by kind
+
+items-tally : (s : List ℕ) (expressions start i : ℕ) → tallyBefore Sketches s expressions start i ≡ itemsBefore s start i
+unfolding tallyBefore nextTally itemsBefore
+items-tally s expressions start zero = refl
+items-tally s expressions start (suc i) = ap (λ (t : ℕ). t + u16At s (recordAt Sketches s start i + sketchCountOffset)) (items-tally s expressions start i)
+
+runs-tally : (s : List ℕ) (expressions start i : ℕ) → tallyBefore Expressions s expressions start i ≡ runsBefore s start i
+unfolding tallyBefore nextTally runsBefore
+runs-tally s expressions start zero = refl
+runs-tally s expressions start (suc i) = rw (runs-tally s expressions start i, fixed-place Expressions expressionSize expressions-fixed s start i) refl
+
+-- the expression to which the operand before the i-th belongs
+unfoldable ownerBefore : List ℕ → ℕ → ℕ → ℕ
+ownerBefore s expressions zero = 0
+ownerBefore s expressions (suc i) = naryOf s expressions i
 
 -- looking on from the owner of the operand before
 owner-of : (s : List ℕ) (expressions i : ℕ) → RunsFollow s expressions → naryFrom s expressions i (ownerBefore s expressions i) ≡ naryOf s expressions i
@@ -38,38 +50,37 @@ unfolding ownerBefore
 owner-before-within s expressions zero = omega arith
 owner-before-within s expressions (suc i) = owner-within s expressions i
 
--- ---- by kind: the tally, and the one behind record i
+owner-tally : (kind : Kind) (s : List ℕ) (expressions start i : ℕ) → sectionOf kind .tally ≡ Owner → RunsFollow s expressions → tallyBefore kind s expressions start i ≡ ownerBefore s expressions i
+unfolding tallyBefore nextTally ownerBefore
+owner-tally kind s expressions start zero e f = refl
+owner-tally kind s expressions start (suc i) e f = rw (e, owner-tally kind s expressions start i e f) (owner-of s expressions i f)
+
+pub owned : {kind : Kind} → kind ≡ Operands → sectionOf kind .tally ≡ Owner
+owned e = ap (λ (k : Kind). sectionOf k .tally) e
 
 module _ (kind : Kind) (s : List ℕ) (expressions start i t : ℕ) (tally : t ≡ tallyBefore kind s expressions start i) where
+  tally-of : {known : Kind} → kind ≡ known → t ≡ tallyBefore known s expressions start i
+  tally-of e = tally ∙ ap (λ (k : Kind). tallyBefore k s expressions start i) e
+
   pub sketches-tally : kind ≡ Sketches → t ≡ itemsBefore s start i
-  unfolding tallyBefore
-  sketches-tally e = tally ∙ ap (λ (k : Kind). tallyBefore k s expressions start i) e
+  sketches-tally e = tally-of e ∙ items-tally s expressions start i
 
   pub expressions-tally : kind ≡ Expressions → t ≡ runsBefore s start i
-  unfolding tallyBefore
-  expressions-tally e = tally ∙ ap (λ (k : Kind). tallyBefore k s expressions start i) e
+  expressions-tally e = tally-of e ∙ runs-tally s expressions start i
 
-  pub operands-tally : kind ≡ Operands → t ≡ ownerBefore s expressions i
-  unfolding tallyBefore
-  operands-tally e = tally ∙ ap (λ (k : Kind). tallyBefore k s expressions start i) e
+  module _ (known : RunsKnown kind s expressions) where
+    operands-tally : sectionOf kind .tally ≡ Owner → t ≡ ownerBefore s expressions i
+    operands-tally e = tally ∙ owner-tally kind s expressions start i e (known e)
 
-  pub sketches-next : kind ≡ Sketches → (at : ℕ) → at ≡ recordAt kind s start i → t + u16At s (at + 8) ≡ tallyBefore kind s expressions start (i + 1)
-  unfolding tallyBefore itemsBefore
-  sketches-next e at h = rw (e, sketches-tally e, h, e, add-one) refl
+    pub operands-within : OwnerWithin (sectionOf kind .tally) s expressions t
+    operands-within e = subst (λ (n : ℕ). n ≤ u16At s expressions) (sym (operands-tally e)) (owner-before-within s expressions i)
 
-  pub expressions-next : kind ≡ Expressions → (at : ℕ) → at ≡ recordAt kind s start i → t + runLength s at ≡ tallyBefore kind s expressions start (i + 1)
-  unfolding tallyBefore
-  expressions-next e at h = rw (e, expressions-tally e, h, e, fixed-place Expressions 25 expressions-fixed s start i) (sym (runs-step s start i))
+    operands-owner : sectionOf kind .tally ≡ Owner → naryFrom s expressions i t ≡ naryOf s expressions i
+    operands-owner e = ap (naryFrom s expressions i) (operands-tally e) ∙ owner-of s expressions i (known e)
 
-  pub operands-next : RunsKnown kind s expressions → kind ≡ Operands → naryFrom s expressions i t ≡ tallyBefore kind s expressions start (i + 1)
-  unfolding tallyBefore ownerBefore
-  operands-next f e = let g = owner-of s expressions i (f e) in rw (e, operands-tally e, add-one) g
-
-  pub operands-within : kind ≡ Operands → t ≤ u16At s expressions
-  operands-within e = subst (λ (n : ℕ). n ≤ u16At s expressions) (sym (operands-tally e)) (owner-before-within s expressions i)
-
-  pub operands-owner : RunsKnown kind s expressions → kind ≡ Operands → naryFrom s expressions i t ≡ naryOf s expressions i
-  operands-owner f e = ap (naryFrom s expressions i) (operands-tally e) ∙ owner-of s expressions i (f e)
+    pub operands-next : sectionOf kind .tally ≡ Owner → (at next : ℕ) → next ≡ nextTally (sectionOf kind .tally) s expressions t i at → next ≡ naryOf s expressions i
+    unfolding nextTally
+    operands-next e at next h = h ∙ (ap (λ (x : Tally). nextTally x s expressions t i at) e ∙ operands-owner e)
 
 -- ---- a record at its place
 

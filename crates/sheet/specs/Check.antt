@@ -3,6 +3,7 @@ use Prim.Native.Nat.{ℕ, zero, suc}
 use mathlib.Core.List.{List}
 use lib.Dec.{leb, eqb}
 use lib.ListN.{length}
+use Rattle.layout.specs.Places.{sheetLimit}
 use Rattle.rules.specs.Rules.{ask, orElse, firstRefusal}
 use Rattle.sheet.specs.Order.{kindAt, sectionCount, sketchesNumber, expressionsNumber, sectionAt, sectionsIn}
 use Rattle.sheet.specs.Rules.{sectionRefusal}
@@ -19,7 +20,7 @@ refusalIn s k = sectionRefusal (kindAt k) s (sectionAt s sketchesNumber) (sectio
 unfoldable pub sheetRefusal : List ℕ → ℕ
 unfolding refusalIn firstRefusal sectionAt
 sheetRefusal s =
-    orElse (ask (leb (length s) 65535) 1)
+    orElse (ask (leb (length s) sheetLimit) 1)
     (orElse (firstRefusal (refusalIn s) 0 sectionCount)
     (ask (eqb (sectionAt s sectionCount) (length s)) 10))
 

@@ -1,7 +1,9 @@
 // A join sheet: whether its bytes keep every rule, and where its sections stand.
 ghost use mathlib.Core.Path.{_≡_};
 ghost use Rattle.sheet.specs.Check.{verdict, check};
+use layout::SHEET_LIMIT;
 use order::EXPRESSIONS;
+use order::SECTION_COUNT;
 use order::SKETCHES;
 use order::kind_at;
 use order::sections_of;
@@ -9,7 +11,8 @@ use rules::ask;
 use walk::Reached;
 use walk::section;
 
-mod order;
+pub mod order;
+mod table;
 mod walk;
 
 // Where the count of each section stands.
@@ -46,13 +49,13 @@ fn verdict(refusal: u8, sections: Sections) -> Checked
 pub fn check(s: &[u8]) -> Checked
     ensures { λ r. ⌜ r ≡ check (now (s .entry)) ⌝ }
 {
-    if 65535 < s.len() {
+    if SHEET_LIMIT < s.len() {
         return Checked::Refused(1);
     }
-    let mut starts = [0u16; 12];
+    let mut starts = [0u16; SECTION_COUNT];
     let mut at: usize = 0;
     let mut k: usize = 0;
-    while k < 12 {
+    while k < SECTION_COUNT {
         starts[k] = at as u16;
         let reached = section(
             s,

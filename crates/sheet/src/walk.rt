@@ -1,19 +1,28 @@
 // The records of a section, one behind the other.
 ghost use mathlib.Core.Path.{_≡_};
 ghost use Prim.Native.Nat.{_<_, _≤_, _+_, _^_};
+ghost use mathlib.Core.Bool.{cond};
 ghost use lib.ListN.{length};
 ghost use Rattle.le.specs.Fields.{u16At};
 ghost use Rattle.rules.specs.Rules.{firstRefusal};
-ghost use Rattle.sheet.specs.Order.{recordEnd, recordAt};
-ghost use Rattle.sheet.specs.Rules.{countWithin, fillRefusal, countRefusal, recordRefusal, recordsRefusal, sectionRefusal};
-ghost use Rattle.sheet.specs.Walk.{RunsKnown, tallyBefore, reached};
+ghost use Rattle.layout.specs.Places.{countSize};
+ghost use Rattle.expression_rules.specs.Operands.{fillRefusal};
+ghost use Rattle.sheet.specs.Order.{recordAt};
+ghost use Rattle.sheet.specs.Rules.{countWithin, countRefusal, recordRefusal, recordsRefusal, sectionRefusal};
+ghost use Rattle.sheet.specs.Table.{sectionOf};
+ghost use Rattle.sheet.specs.Walk.{RunsKnown, OwnerWithin, nextTally, tallyBefore, reached};
 use crate::order::Kind;
+use crate::table::Tally;
+use crate::table::section_of;
+use crate::table::shape_end;
 use expression_rules::expressions::expression_refusal;
 use expression_rules::operands::conjunct_refusal;
+use expression_rules::operands::fill_refusal;
 use expression_rules::operands::nary_from;
 use expression_rules::operands::operand_refusal;
 use expression_rules::operands::run_length;
-use expression_rules::operands::runs_before;
+use layout::COUNT_SIZE;
+use layout::SKETCH_COUNT_OFFSET;
 use le::reads::u16_at;
 use record_rules::catalog::key_refusal;
 use record_rules::catalog::table_refusal;
@@ -23,6 +32,7 @@ use record_rules::fields::whole;
 use record_rules::rows::rows_refusal;
 use record_rules::rows::setting_refusal;
 use rules::ask;
+use rules::both;
 use rules::or_else;
 use sketch_rules::sketch_refusal;
 
@@ -32,76 +42,37 @@ pub enum Reached {
     At(usize),
 }
 
-// Where the record behind the one at a place stands.
-fn record_end(s: &[u8], kind: Kind, at: usize) -> usize
-    requires { ⌜ at < 2 ^ 40 ⌝ }
-    ensures { λ r. ⌜ r ≡ recordEnd kind (now (s .entry)) at ⌝ }
-{
-    match kind {
-        Kind::Rows => at + 26,
-        Kind::Settings => at + 8,
-        Kind::Sketches => at + 10 + 35 * (u16_at(s, at + 8) as usize),
-        Kind::Tables => at + 10,
-        Kind::Keys => at + 9,
-        Kind::Columns => at + 98,
-        Kind::Classes => at + 28 + 2 * (u16_at(s, at) as usize),
-        Kind::Expressions => at + 25,
-        Kind::Operands => at + 2,
-        Kind::Conjuncts => at + 2,
-    }
-}
-
 fn count_within(kind: Kind, n: u16) -> bool
     ensures { λ r. ⌜ r ≡ countWithin kind n ⌝ }
 {
-    match kind {
-        Kind::Rows => n == 2,
-        Kind::Settings => n == 5,
-        Kind::Sketches => n <= 16,
-        Kind::Tables => n <= 64,
-        Kind::Keys => n <= 64,
-        Kind::Columns => n <= 64,
-        Kind::Classes => n <= 32,
-        Kind::Expressions => n <= 256,
-        Kind::Operands => n <= 512,
-        Kind::Conjuncts => n <= 64,
-    }
+    let section = section_of(kind);
+    both(section.least <= n, n <= section.most)
 }
 
-// The operands are as many as the runs hold.
-fn fill_refusal(s: &[u8], kind: Kind, expressions: usize, n: u16) -> u8
+// Where runs fill the section, they hold as many as it has.
+fn filled_refusal(s: &[u8], filled: bool, expressions: usize, n: u16) -> u8
     requires { ⌜ expressions < 2 ^ 40 ⌝ }
-    ensures { λ r. ⌜ r ≡ fillRefusal kind (now (s .entry)) expressions n ⌝ }
+    ensures { λ r. ⌜ r ≡ cond filled (fillRefusal (now (s .entry)) expressions n) 0 ⌝ }
 {
-    match kind {
-        Kind::Rows => 0,
-        Kind::Settings => 0,
-        Kind::Sketches => 0,
-        Kind::Tables => 0,
-        Kind::Keys => 0,
-        Kind::Columns => 0,
-        Kind::Classes => 0,
-        Kind::Expressions => 0,
-        Kind::Operands => {
-            let named = u16_at(s, expressions) as usize;
-            ask(n as usize == runs_before(s, expressions, named), 9)
-        }
-        Kind::Conjuncts => 0,
+    if filled {
+        return fill_refusal(s, expressions, n);
     }
+    0
 }
 
 fn count_refusal(s: &[u8], kind: Kind, expressions: usize, start: usize) -> u8
     requires { ⌜ expressions < 2 ^ 40 ⌝ }
     ensures { λ r. ⌜ r ≡ countRefusal kind (now (s .entry)) expressions start ⌝ }
 {
-    let there = whole(2, s, start);
+    let there = whole(COUNT_SIZE, s, start);
     let n = u16_at(s, start);
     let within = ask(count_within(kind, n), 3);
-    let fill = fill_refusal(s, kind, expressions, n);
+    let section = section_of(kind);
+    let fill = filled_refusal(s, section.filled, expressions, n);
     or_else(there, or_else(within, fill))
 }
 
-// Record i of a section, which stands at a place. `tally` is what it needs of the records before it.
+// Record i of a section, which stands at a place; the tally before it, and the next one behind it.
 fn record_refusal(
     s: &[u8],
     kind: Kind,
@@ -109,10 +80,11 @@ fn record_refusal(
     expressions: usize,
     start: usize,
     tally: usize,
+    next: usize,
     i: usize,
     at: usize,
 ) -> u8
-    requires { ⌜ ((((at < 2 ^ 38) × (start < 2 ^ 38)) × ((expressions < 2 ^ 40) × (i < 2 ^ 16))) × RunsKnown kind (now s) expressions) × ((tally < 2 ^ 40) × (tally ≡ tallyBefore kind (now s) expressions start i)) ⌝ }
+    requires { ⌜ ((((at < 2 ^ 38) × (start < 2 ^ 38)) × ((expressions < 2 ^ 40) × (i < 2 ^ 16))) × RunsKnown kind (now s) expressions) × (((tally < 2 ^ 40) × (tally ≡ tallyBefore kind (now s) expressions start i)) × (next ≡ nextTally (sectionOf kind .tally) (now s) expressions tally i at)) ⌝ }
     ensures { λ r. ⌜ r ≡ recordRefusal kind (now (s .entry)) sketches expressions start i at ⌝ }
 {
     match kind {
@@ -124,38 +96,21 @@ fn record_refusal(
         Kind::Columns => column_refusal(s, u16_at(s, sketches), i, at),
         Kind::Classes => class_refusal(s, at),
         Kind::Expressions => expression_refusal(s, tally, i, at),
-        Kind::Operands => {
-            let owner = nary_from(s, expressions, i, tally);
-            operand_refusal(s, expressions, owner, start + 2, i)
-        }
+        Kind::Operands => operand_refusal(s, expressions, next, start + COUNT_SIZE, i),
         Kind::Conjuncts => conjunct_refusal(s, expressions, at),
     }
 }
 
-// The tally behind record i.
-fn next_tally(
-    s: &[u8],
-    kind: Kind,
-    expressions: usize,
-    start: usize,
-    tally: usize,
-    i: usize,
-    at: usize,
-) -> usize
-    requires { ⌜ ((((at < 2 ^ 38) × (expressions < 2 ^ 40)) × RunsKnown kind (now s) expressions) × (at ≡ recordAt kind (now s) start i)) × ((tally < 2 ^ 40) × (tally ≡ tallyBefore kind (now s) expressions start i)) ⌝ }
-    ensures { λ r. ⌜ (r ≡ tallyBefore kind (now (s .entry)) expressions start (i + 1)) × (r < tally + 2 ^ 16) ⌝ }
+// The tally behind record i, which stands at a place; before it the tally is n.
+fn next_tally(s: &[u8], tally: Tally, expressions: usize, n: usize, i: usize, at: usize) -> usize
+    requires { ⌜ ((at < 2 ^ 38) × (expressions < 2 ^ 40)) × ((n < 2 ^ 40) × OwnerWithin tally (now s) expressions n) ⌝ }
+    ensures { λ r. ⌜ (r ≡ nextTally tally (now (s .entry)) expressions n i at) × (r < n + 2 ^ 16) ⌝ }
 {
-    match kind {
-        Kind::Rows => 0,
-        Kind::Settings => 0,
-        Kind::Sketches => tally + (u16_at(s, at + 8) as usize),
-        Kind::Tables => 0,
-        Kind::Keys => 0,
-        Kind::Columns => 0,
-        Kind::Classes => 0,
-        Kind::Expressions => tally + run_length(s, at),
-        Kind::Operands => nary_from(s, expressions, i, tally),
-        Kind::Conjuncts => 0,
+    match tally {
+        Tally::Nothing => 0,
+        Tally::Items => n + (u16_at(s, at + SKETCH_COUNT_OFFSET) as usize),
+        Tally::Runs => n + run_length(s, at),
+        Tally::Owner => nary_from(s, expressions, i, n),
     }
 }
 
@@ -167,19 +122,23 @@ fn walk_records(
     start: usize,
     n: usize,
 ) -> Reached
-    requires { ⌜ (((length (now s) < 2 ^ 16) × (start + 2 ≤ length (now s))) × RunsKnown kind (now s) expressions) × ((expressions < 2 ^ 16) × (n < 2 ^ 16)) ⌝ }
+    requires { ⌜ (((length (now s) < 2 ^ 16) × (start + countSize ≤ length (now s))) × RunsKnown kind (now s) expressions) × ((expressions < 2 ^ 16) × (n < 2 ^ 16)) ⌝ }
     ensures { λ r. ⌜ r ≡ reached (firstRefusal (recordsRefusal kind (now (s .entry)) sketches expressions start) 0 n) (recordAt kind (now (s .entry)) start n) ⌝ }
 {
-    let mut at = start + 2;
+    let section = section_of(kind);
+    let shape = section.shape;
+    let carried = section.tally;
+    let mut at = start + COUNT_SIZE;
     let mut tally: usize = 0;
     let mut i: usize = 0;
     while i < n {
-        let refusal = record_refusal(s, kind, sketches, expressions, start, tally, i, at);
+        let next = next_tally(s, carried, expressions, tally, i, at);
+        let refusal = record_refusal(s, kind, sketches, expressions, start, tally, next, i, at);
         if refusal != 0 {
             return Reached::Refused(refusal);
         }
-        tally = next_tally(s, kind, expressions, start, tally, i, at);
-        at = record_end(s, kind, at);
+        tally = next;
+        at = shape_end(s, shape, at);
         i += 1;
     }
     Reached::At(at)

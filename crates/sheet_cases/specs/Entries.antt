@@ -5,6 +5,7 @@ use mathlib.Core.List.{List}
 use lib.Dec.{eqb}
 use lib.ListN.{replicate}
 use Rattle.le.specs.Fields.{byteAt}
+use Rattle.layout.specs.Places.{longestJoin, longestSplit, longestPredicate}
 use Rattle.answers.specs.Answers.{Result, answered, leaves}
 use Rattle.expression_answer.specs.Predicate.{predicateResult}
 use Rattle.expression_answer.specs.Split.{splitResult}
@@ -28,14 +29,12 @@ isResult result out a at size = isAnswer (answered result out) (leaves result ou
 
 unfoldable pub isPredicate : List ℕ → ℕ → List ℕ → ℕ → ℕ → Bool
 unfolding sameBytes
-isPredicate s e a at size = isResult (predicateResult s e) (replicate 26 0) a at size
+isPredicate s e a at size = isResult (predicateResult s e) (replicate longestPredicate 0) a at size
 
--- a count and 512 numbers
 unfoldable pub isSplit : List ℕ → ℕ → List ℕ → ℕ → ℕ → Bool
 unfolding sameBytes
-isSplit s e a at size = isResult (splitResult s e) (replicate 1026 0) a at size
+isSplit s e a at size = isResult (splitResult s e) (replicate longestSplit 0) a at size
 
--- 64 classes with 128 columns between them, 64 coverages and 128 non-null columns are the most that an answer holds
 unfoldable pub isJoin : List ℕ → List ℕ → ℕ → ℕ → Bool
 unfolding sameBytes
-isJoin s a at size = isResult (joinResult s) (replicate 5124 0) a at size
+isJoin s a at size = isResult (joinResult s) (replicate longestJoin 0) a at size

@@ -3,6 +3,9 @@ ghost use mathlib.Core.Path.{_≡_};
 ghost use Prim.Native.Nat.{_+_, _<_, _^_};
 ghost use Rattle.sheet_cases.specs.Entries.{sameBytes, isAnswer, isPredicate, isSplit, isJoin};
 use answers::Answer;
+use layout::LONGEST_JOIN;
+use layout::LONGEST_PREDICATE;
+use layout::LONGEST_SPLIT;
 use le::reads::byte_at;
 
 fn same_bytes(out: &[u8], a: &[u8], at: usize, n: usize) -> bool
@@ -34,7 +37,7 @@ pub fn is_predicate(s: &[u8], e: u16, a: &[u8], at: usize, size: usize) -> bool
     requires { ⌜ at + size < 2 ^ 40 ⌝ }
     ensures { λ r. ⌜ r ≡ isPredicate (now (s .entry)) e (now (a .entry)) at size ⌝ }
 {
-    let mut out = [0u8; 26];
+    let mut out = [0u8; LONGEST_PREDICATE];
     let answer = estimates::predicate(s, e, &mut out);
     is_answer(answer, &out, a, at, size)
 }
@@ -43,7 +46,7 @@ pub fn is_split(s: &[u8], e: u16, a: &[u8], at: usize, size: usize) -> bool
     requires { ⌜ at + size < 2 ^ 40 ⌝ }
     ensures { λ r. ⌜ r ≡ isSplit (now (s .entry)) e (now (a .entry)) at size ⌝ }
 {
-    let mut out = [0u8; 1026];
+    let mut out = [0u8; LONGEST_SPLIT];
     let answer = estimates::split(s, e, &mut out);
     is_answer(answer, &out, a, at, size)
 }
@@ -52,7 +55,7 @@ pub fn is_join(s: &[u8], a: &[u8], at: usize, size: usize) -> bool
     requires { ⌜ at + size < 2 ^ 40 ⌝ }
     ensures { λ r. ⌜ r ≡ isJoin (now (s .entry)) (now (a .entry)) at size ⌝ }
 {
-    let mut out = [0u8; 5124];
+    let mut out = [0u8; LONGEST_JOIN];
     let answer = estimates::join(s, &mut out);
     is_answer(answer, &out, a, at, size)
 }

@@ -1,11 +1,12 @@
 // Replays a stored list of sheets, which standard input holds, against `sheet::check` and the entries
 // of `estimates`, and writes how many cases there were of each kind and how many differ.
-// `rust/list` makes the list, and `tests/make_sheet_cases.py` describes its commands of 32 bytes.
+// `rust/list` makes the list, and `tests/make_sheet_cases.py` describes its commands.
 mod claims;
 mod entries;
 
 use libc::STDIN_FILENO;
 use libc::STDOUT_FILENO;
+use sheet_claims::commands::COMMAND_SIZE;
 use sheet_claims::stores;
 use sheet_claims::tallies;
 
@@ -25,19 +26,19 @@ fn replay_one(
 }
 
 // Replays the commands up to the first that is not there whole, and gives how many bytes of that
-// one there are. After 1,000,000 commands it stops and gives 32.
+// one there are. After 1,000,000 commands it stops and gives the size of a whole one.
 fn replay(sheet: &mut [u8], answer: &mut [u8], cases: &mut [u64], differ: &mut [u64]) -> usize {
-    let mut command = [0u8; 32];
+    let mut command = [0u8; COMMAND_SIZE];
     let mut i = 0usize;
     while i < 1_000_000 {
         let n = io::read_full(STDIN_FILENO, &mut command);
-        if n < 32 {
+        if n < COMMAND_SIZE {
             return n;
         }
         replay_one(sheet, answer, &command, cases, differ);
         i += 1;
     }
-    32
+    COMMAND_SIZE
 }
 
 fn write_line(name: &[u8], cases: &[u64], differ: &[u64], line: usize) {
@@ -72,7 +73,7 @@ fn write_tallies(cases: &[u64], differ: &[u64]) {
 // fails; only at the end does one more read give 0.
 fn write_end(left: usize) {
     let mut more = [0u8; 1];
-    if left == 32 {
+    if left == COMMAND_SIZE {
         io::write_all(STDOUT_FILENO, b"the list is too long\n");
         return;
     }

@@ -9,6 +9,7 @@ use lib.Dec.{leb}
 use lib.ListN.{length, set}
 use Rattle.le.specs.Fields.{byteAt, u16At, u32At}
 use Rattle.rules.proofs.RuleLaws.{both-second}
+use Rattle.sheet_claims.specs.Commands.{storeCountOffset, storePlaceOffset, storeLimit}
 use Rattle.sheet_claims.specs.Stores.{copied, storeFits}
 
 left-all : (n : ℕ) → n - 0 ≡ n
@@ -39,6 +40,6 @@ unfolding copied
 copied-end s c total at from i n h e = rw (left-none n i h) at e
 
 -- what fits ends within the buffer
-pub fits-room : (s c : List ℕ) → storeFits s c ≡ true → u32At c 4 + u16At c 2 ≤ length s
+pub fits-room : (s c : List ℕ) → storeFits s c ≡ true → u32At c storePlaceOffset + u16At c storeCountOffset ≤ length s
 unfolding storeFits
-fits-room s c e = leb-true _ _ (both-second (leb (u16At c 2) 24) _ e)
+fits-room s c e = leb-true _ _ (both-second (leb (u16At c storeCountOffset) storeLimit) _ e)

@@ -1,5 +1,5 @@
 -- What a command of the list claims of a sheet, in terms of `check` of the crate `sheet`. Definitions only.
-use Prim.Native.Nat.{ℕ, zero, suc, _+_}
+use Prim.Native.Nat.{ℕ, zero, suc, _+_, _*_}
 use mathlib.Core.Bool.{Bool, true, false, not, cond, _&&_}
 use mathlib.Core.List.{List, [], _∷_}
 use lib.Dec.{eqb, leb}
@@ -10,6 +10,8 @@ use Rattle.sheet.specs.Check.{check}
 use Rattle.sheet.specs.declared.Sections.{Sections}
 use Rattle.sheet.specs.declared.Checked.{Checked}
 use Rattle.sheet.specs.declared.Checked.the-variants.{Refused, Accepted}
+use Rattle.layout.specs.Places.{numberSize}
+use Rattle.sheet_claims.specs.Commands.{numberOffset, lengthOffset}
 use Rattle.sheet_claims.specs.Stores.{storeFits}
 use Rattle.sheet_claims.specs.declared.Verdict.{Verdict}
 
@@ -22,24 +24,25 @@ refusedBy (Accepted q) number = false
 unfoldable pub isRefused : List ℕ → ℕ → Bool
 isRefused s number = refusedBy (check s) number
 
--- the places of the twelve sections, in their order
+-- the places of the sections, in their order
 unfoldable pub placesOf : Sections → List ℕ
 placesOf q =
     q .rows ∷ q .settings ∷ q .sketches ∷ q .tables ∷ q .keys ∷ q .«left_columns» ∷ q .«right_columns»
     ∷ q .«left_classes» ∷ q .«right_classes» ∷ q .expressions ∷ q .operands ∷ q .conjuncts ∷ []
 
--- the numbers are those that c has from a place on, two bytes each
+-- the numbers are those that a has from a place on
 unfoldable pub samePlaces : List ℕ → List ℕ → ℕ → Bool
-samePlaces [] c at = true
-samePlaces (p ∷ ps) c at = cond (eqb p (u16At c at)) (samePlaces ps c (at + 2)) false
+samePlaces [] a at = true
+samePlaces (p ∷ ps) a at = cond (eqb p (u16At a at)) (samePlaces ps a (at + numberSize)) false
 
--- a command has the places behind its head
-abbrev pub acceptedAs : Checked → List ℕ → Bool
-acceptedAs (Refused n) c = false
-acceptedAs (Accepted q) c = samePlaces (placesOf q) c 8
+-- the `size` bytes of a from `at` on are the sections' places, and nothing else
+abbrev pub acceptedAs : Checked → List ℕ → ℕ → ℕ → Bool
+acceptedAs (Refused n) a at size = false
+acceptedAs (Accepted q) a at size = eqb size (numberSize * length (placesOf q)) && samePlaces (placesOf q) a at
 
-unfoldable pub isAccepted : List ℕ → List ℕ → Bool
-isAccepted s c = acceptedAs (check s) c
+unfoldable pub isAccepted : List ℕ → List ℕ → ℕ → ℕ → Bool
+unfolding placesOf
+isAccepted s a at size = acceptedAs (check s) a at size
 
 -- how many of the prefixes of 0 .. n - 1 bytes are not refused with the number
 unfoldable pub differingBelow : List ℕ → ℕ → ℕ → ℕ
@@ -59,17 +62,13 @@ judgeStore s c = cond (storeFits s c) (oneCase 13 true) unknown
 
 unfoldable pub judgeRefused : List ℕ → List ℕ → Verdict
 judgeRefused s c =
-    cond (leb (u32At c 4) (length s) && (leb 1 (byteAt c 1) && leb (byteAt c 1) 10))
-    (oneCase (byteAt c 1) (isRefused (take (u32At c 4) s) (byteAt c 1)))
+    cond (leb (u32At c lengthOffset) (length s) && (leb 1 (byteAt c numberOffset) && leb (byteAt c numberOffset) 10))
+    (oneCase (byteAt c numberOffset) (isRefused (take (u32At c lengthOffset) s) (byteAt c numberOffset)))
     unknown
 
-unfoldable pub judgeAccepted : List ℕ → List ℕ → Verdict
-judgeAccepted s c =
-    cond (leb (u32At c 4) (length s)) (oneCase 11 (isAccepted (take (u32At c 4) s) c)) unknown
-
--- the prefixes of the first u32At c 4 bytes are prefixes of s
+-- the sheet's prefixes are prefixes of s
 unfoldable pub judgePrefixes : List ℕ → List ℕ → Verdict
 judgePrefixes s c =
-    cond (leb (u32At c 4) (length s))
-    (record { line = 12; cases = u32At c 4; differ = differingBelow s (byteAt c 1) (u32At c 4) })
+    cond (leb (u32At c lengthOffset) (length s))
+    (record { line = 12; cases = u32At c lengthOffset; differ = differingBelow s (byteAt c numberOffset) (u32At c lengthOffset) })
     unknown

@@ -1,3 +1,4 @@
+pub mod Commands
 pub mod Stores
 pub mod Claims
 pub mod Tallies

@@ -1,17 +1,22 @@
 // What a command of a list of sheets claims of a sheet alone, and whether that is so.
 ghost use mathlib.Core.Path.{_≡_};
-ghost use Prim.Native.Nat.{_≤_};
+ghost use Prim.Native.Nat.{_+_, _≤_, _<_, _^_};
 ghost use lib.ListN.{length};
 ghost use Rattle.float.specs.Integers.{bit};
-ghost use Rattle.sheet_claims.specs.Claims.{isRefused, placesOf, samePlaces, isAccepted, differingBelow, unknown, oneCase, judgeStore, judgeRefused, judgeAccepted, judgePrefixes};
+ghost use Rattle.sheet_claims.specs.Claims.{isRefused, placesOf, samePlaces, isAccepted, differingBelow, unknown, oneCase, judgeStore, judgeRefused, judgePrefixes};
+use commands::LENGTH_OFFSET;
+use commands::NUMBER_OFFSET;
+use layout::NUMBER_SIZE;
 use le::reads::byte_at;
 use le::reads::u16_at;
 use le::reads::u32_at;
 use rules::both;
 use sheet::Checked;
 use sheet::Sections;
+use sheet::order::SECTION_COUNT;
 use stores::store_fits;
 
+pub mod commands;
 pub mod stores;
 pub mod tallies;
 
@@ -40,7 +45,7 @@ fn is_refused(s: &[u8], number: u8) -> bool
     }
 }
 
-fn places_of(q: Sections) -> [u16; 12]
+fn places_of(q: Sections) -> [u16; SECTION_COUNT]
     ensures { λ r. ⌜ r ≡ placesOf q ⌝ }
 {
     [
@@ -59,13 +64,14 @@ fn places_of(q: Sections) -> [u16; 12]
     ]
 }
 
-// Whether the command has these places behind its head.
-fn same_places(places: [u16; 12], c: &[u8]) -> bool
-    ensures { λ r. ⌜ r ≡ samePlaces places (now (c .entry)) 8 ⌝ }
+// Whether the list has these places from `at` on.
+fn same_places(places: [u16; SECTION_COUNT], a: &[u8], at: usize) -> bool
+    requires { ⌜ at < 2 ^ 40 ⌝ }
+    ensures { λ r. ⌜ r ≡ samePlaces places (now (a .entry)) at ⌝ }
 {
     let mut i = 0usize;
-    while i < 12 {
-        if places[i] != u16_at(c, 8 + 2 * i) {
+    while i < SECTION_COUNT {
+        if places[i] != u16_at(a, at + NUMBER_SIZE * i) {
             return false;
         }
         i += 1;
@@ -73,14 +79,18 @@ fn same_places(places: [u16; 12], c: &[u8]) -> bool
     true
 }
 
-// Whether the sheet is accepted, with its sections where the command has them.
-fn is_accepted(s: &[u8], c: &[u8]) -> bool
-    ensures { λ r. ⌜ r ≡ isAccepted (now (s .entry)) (now (c .entry)) ⌝ }
+// Whether the sheet is accepted, with its sections where the list's `size` bytes from `at` on have them.
+pub fn is_accepted(s: &[u8], a: &[u8], at: usize, size: usize) -> bool
+    requires { ⌜ at + size < 2 ^ 40 ⌝ }
+    ensures { λ r. ⌜ r ≡ isAccepted (now (s .entry)) (now (a .entry)) at size ⌝ }
 {
     let answer = sheet::check(s);
     match answer {
         Checked::Refused(_) => false,
-        Checked::Accepted(q) => same_places(places_of(q), c),
+        Checked::Accepted(q) => both(
+            size == NUMBER_SIZE * SECTION_COUNT,
+            same_places(places_of(q), a, at),
+        ),
     }
 }
 
@@ -131,8 +141,8 @@ pub fn judge_store(s: &[u8], c: &[u8]) -> Verdict
 pub fn judge_refused(s: &[u8], c: &[u8]) -> Verdict
     ensures { λ r. ⌜ r ≡ judgeRefused (now (s .entry)) (now (c .entry)) ⌝ }
 {
-    let n = u32_at(c, 4) as usize;
-    let number = byte_at(c, 1);
+    let n = u32_at(c, LENGTH_OFFSET) as usize;
+    let number = byte_at(c, NUMBER_OFFSET);
     if s.len() < n {
         return unknown();
     }
@@ -142,24 +152,14 @@ pub fn judge_refused(s: &[u8], c: &[u8]) -> Verdict
     one_case(number, is_refused(&s[..n], number))
 }
 
-pub fn judge_accepted(s: &[u8], c: &[u8]) -> Verdict
-    ensures { λ r. ⌜ r ≡ judgeAccepted (now (s .entry)) (now (c .entry)) ⌝ }
-{
-    let n = u32_at(c, 4) as usize;
-    if s.len() < n {
-        return unknown();
-    }
-    one_case(11, is_accepted(&s[..n], c))
-}
-
 pub fn judge_prefixes(s: &[u8], c: &[u8]) -> Verdict
     ensures { λ r. ⌜ r ≡ judgePrefixes (now (s .entry)) (now (c .entry)) ⌝ }
 {
-    let n = u32_at(c, 4);
+    let n = u32_at(c, LENGTH_OFFSET);
     if s.len() < n as usize {
         return unknown();
     }
-    let differ = differing_below(s, byte_at(c, 1), n as usize);
+    let differ = differing_below(s, byte_at(c, NUMBER_OFFSET), n as usize);
     Verdict {
         line: 12,
         cases: n as u64,

@@ -1,11 +1,17 @@
-// The items of a sketch, where they stand: at + 10 and on, 35 bytes each.
+// The items of a sketch, where they stand behind its head.
 ghost use mathlib.Core.Path.{_≡_};
 ghost use Prim.Native.Nat.{_+_, _-_, _*_, _<_, _≤_, _^_};
 ghost use lib.ListN.{length};
+ghost use Rattle.layout.specs.Places.{sketchHeadSize, itemSize};
 ghost use Rattle.records.specs.Sketches.{sketchAt};
 ghost use Rattle.sketch.specs.Frequent.{findItem, residualRows};
 use crate::values::has_value;
 use crate::values::has_value_there;
+use layout::ITEM_ERROR_OFFSET;
+use layout::ITEM_LOWER_OFFSET;
+use layout::ITEM_SIZE;
+use layout::SKETCH_COUNT_OFFSET;
+use layout::SKETCH_HEAD_SIZE;
 use le::reads::u16_at;
 use le::reads::u64_at;
 use le::reads::word_at;
@@ -27,21 +33,21 @@ pub fn item_count(s: &[u8], at: usize) -> u16
     requires { ⌜ at < 2 ^ 60 ⌝ }
     ensures { λ r. ⌜ r ≡ length (sketchAt (now (s .entry)) at .items) ⌝ }
 {
-    u16_at(s, at + 8)
+    u16_at(s, at + SKETCH_COUNT_OFFSET)
 }
 
 // The lookup among n items that are all there.
 fn find_there(s: &[u8], at: usize, n: usize, value: Scalar) -> FoundItem
-    requires { ⌜ (at < 2 ^ 40) × (n ≡ length (sketchAt (now s) at .items)) × (n < 2 ^ 16) × (at + 10 + 35 * n ≤ length (now s)) ⌝ }
+    requires { ⌜ (at < 2 ^ 40) × (n ≡ length (sketchAt (now s) at .items)) × (n < 2 ^ 16) × (at + sketchHeadSize + itemSize * n ≤ length (now s)) ⌝ }
     ensures { λ r. ⌜ r ≡ findItem value (sketchAt (now (s .entry)) at .items) ⌝ }
 {
     let mut i: usize = 0;
     while i < n {
-        let item = at + 10 + 35 * i;
+        let item = at + SKETCH_HEAD_SIZE + ITEM_SIZE * i;
         if has_value_there(s, item, value) {
             return FoundItem::Present {
-                lower: word_at(s, item + 19),
-                error: word_at(s, item + 27),
+                lower: word_at(s, item + ITEM_LOWER_OFFSET),
+                error: word_at(s, item + ITEM_ERROR_OFFSET),
             };
         }
         i += 1;
@@ -56,11 +62,11 @@ fn find_cut(s: &[u8], at: usize, n: usize, value: Scalar) -> FoundItem
 {
     let mut i: usize = 0;
     while i < n {
-        let item = at + 10 + 35 * i;
+        let item = at + SKETCH_HEAD_SIZE + ITEM_SIZE * i;
         if has_value(s, item, value) {
             return FoundItem::Present {
-                lower: u64_at(s, item + 19),
-                error: u64_at(s, item + 27),
+                lower: u64_at(s, item + ITEM_LOWER_OFFSET),
+                error: u64_at(s, item + ITEM_ERROR_OFFSET),
             };
         }
         i += 1;
@@ -73,7 +79,7 @@ pub fn find_item(s: &[u8], at: usize, value: Scalar) -> FoundItem
     ensures { λ r. ⌜ r ≡ findItem value (sketchAt (now (s .entry)) at .items) ⌝ }
 {
     let n = item_count(s, at) as usize;
-    if at + 10 + 35 * n <= s.len() {
+    if at + SKETCH_HEAD_SIZE + ITEM_SIZE * n <= s.len() {
         return find_there(s, at, n, value);
     }
     find_cut(s, at, n, value)
@@ -99,7 +105,10 @@ pub fn residual_rows(s: &[u8], at: usize) -> u64
     let mut rows = population(s, at);
     let mut i: usize = 0;
     while i < n {
-        rows = minus(rows, u64_at(s, at + 10 + 35 * i + 19));
+        rows = minus(
+            rows,
+            u64_at(s, at + SKETCH_HEAD_SIZE + ITEM_SIZE * i + ITEM_LOWER_OFFSET),
+        );
         i += 1;
     }
     rows

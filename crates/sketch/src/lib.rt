@@ -16,6 +16,9 @@ use items::find_item;
 use items::item_count;
 use items::population;
 use items::residual_rows;
+use layout::COLUMN_DISTINCT_OFFSET;
+use layout::COLUMN_SKETCH_OFFSET;
+use layout::ESTIMATE_VALUE_OFFSET;
 use le::floats::f64_at;
 use le::reads::u16_at;
 use places::sketch_place;
@@ -99,6 +102,6 @@ pub fn frequent_value_selectivity(
     if is_null(literal) {
         return none();
     }
-    let distinct = f64_at(s, profile + 70 + 2);
-    numbered_selectivity(s, start, profile + 96, distinct, literal)
+    let distinct = f64_at(s, profile + COLUMN_DISTINCT_OFFSET + ESTIMATE_VALUE_OFFSET);
+    numbered_selectivity(s, start, profile + COLUMN_SKETCH_OFFSET, distinct, literal)
 }

@@ -3,6 +3,9 @@ ghost use mathlib.Core.Path.{_≡_};
 ghost use Prim.Native.Nat.{_<_, _^_};
 ghost use Rattle.records.specs.Sketches.{sketchAt};
 ghost use Rattle.sketch_join.specs.SketchJoin.{withCommon, commonValues, withMatched, matchedValues};
+use layout::ITEM_LOWER_OFFSET;
+use layout::ITEM_SIZE;
+use layout::SKETCH_HEAD_SIZE;
 use le::reads::u64_at;
 use rules::both;
 use scalar_bytes::reads::scalar_at;
@@ -64,9 +67,9 @@ pub fn common_values(s: &[u8], left_at: usize, right_at: usize) -> CommonValues
     };
     let mut i: usize = 0;
     while i < n {
-        let item = left_at + 10 + 35 * i;
+        let item = left_at + SKETCH_HEAD_SIZE + ITEM_SIZE * i;
         let found = find_item(s, right_at, scalar_at(s, item));
-        sums = with_common(sums, u64_at(s, item + 19), found);
+        sums = with_common(sums, u64_at(s, item + ITEM_LOWER_OFFSET), found);
         i += 1;
     }
     sums
@@ -105,9 +108,9 @@ pub fn matched_values(s: &[u8], left_at: usize, right_at: usize) -> MatchedValue
     };
     let mut i: usize = 0;
     while i < n {
-        let item = left_at + 10 + 35 * i;
+        let item = left_at + SKETCH_HEAD_SIZE + ITEM_SIZE * i;
         let found = find_item(s, right_at, scalar_at(s, item));
-        sums = with_matched(sums, u64_at(s, item + 19), found);
+        sums = with_matched(sums, u64_at(s, item + ITEM_LOWER_OFFSET), found);
         i += 1;
     }
     sums

@@ -1,2 +1,3 @@
 pub mod RoomLaws
 pub mod ValueLaws
+pub mod SketchLaws

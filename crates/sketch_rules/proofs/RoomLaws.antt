@@ -1,14 +1,13 @@
 -- What holds of a sketch that keeps its rules: it lies within the sheet, and its items are within the limit. Assumes nothing.
 use Prim.Native.Nat.{ℕ, zero, suc, _+_, _*_, _≤_, _<_}
 use mathlib.Core.Path.{_≡_}
-use mathlib.Core.Bool.{_&&_}
 use mathlib.Core.List.{List}
 use native.Mathlib.Omega.{arith}
 use lib.ListN.{length}
 use Rattle.le.specs.Fields.{u16At}
 use Rattle.rules.proofs.RuleLaws.{else-first, else-second, each-kept}
-use Rattle.record_rules.specs.Fields.{whole}
-use Rattle.record_rules.proofs.RoomLaws.{whole-room}
+use Rattle.layout.specs.Fields.{whole}
+use Rattle.layout.proofs.LayoutLaws.{whole-room}
 use Rattle.sketch_rules.specs.Sketches.{itemRefusal, sketchHeadRefusal, sketchRefusal}
 
 item-room : (s : List ℕ) (first j : ℕ) → itemRefusal s first j ≡ 0 → first + 35 * j + 35 ≤ length s

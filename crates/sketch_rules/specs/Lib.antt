@@ -1,2 +1,3 @@
 pub mod Sketches
+pub mod Lawful
 pub mod Cases

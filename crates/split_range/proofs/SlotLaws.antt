@@ -5,19 +5,20 @@ use mathlib.Core.Bool.{Bool, true, cond, not, _&&_, false≢true}
 use mathlib.Core.List.{List}
 use native.Mathlib.Omega.{arith}
 use native.Mathlib.Nat.{lt-of-not-le}
-use lib.Dec.{leb, ltb, eqb}
-use borrow.Author.Tests.{leb-true, eq-eqb}
+use lib.Dec.{ltb, eqb}
+use borrow.Author.Tests.{eq-eqb}
 use Rattle.le.specs.Fields.{u16At}
 use Rattle.rules.specs.Rules.{ask, firstRefusal}
-use Rattle.rules.proofs.RuleLaws.{ask-kept, else-first, else-second, each-kept}
-use Rattle.record_rules.specs.Fields.{whole}
+use Rattle.rules.proofs.RuleLaws.{ask-kept, else-second, each-kept}
+use Rattle.layout.specs.Fields.{whole}
 use Rattle.expression_rules.specs.Operands.{expressionPlace, isNary, runsBefore, naryOf, RunsFollow, sameOperandRefusal, sharedRefusal, operandRefusal}
 use Rattle.expression_rules.proofs.RunLaws.{Holds, owner-holds}
 use Rattle.expression_rules.proofs.RoomLaws.{operand-below, runs-follow}
-use Rattle.sheet.specs.Order.{sectionAt}
-use Rattle.sheet.specs.Rules.{countWithin, countRefusal}
+use Rattle.sheet.specs.Table.{sectionOf}
+use Rattle.sheet.specs.Order.{expressionsNumber, operandsNumber, sectionAt}
 use Rattle.sheet.specs.Check.{sheetRefusal}
-use Rattle.sheet.proofs.AcceptedLaws.{accepted-count}
+use Rattle.sheet.specs.declared.order.Kind.the-variants.{Operands}
+use Rattle.sheet.proofs.AcceptedLaws.{accepted-within}
 use Rattle.sheet.proofs.OwnerLaws.{accepted-expression, accepted-runs, accepted-operand}
 use Rattle.lawful.proofs.OperandLaws.{runs-rise}
 use Rattle.lookup.specs.Lookup.{operandIn}
@@ -34,22 +35,19 @@ operand-once s x owner first i j e l same nary =
 
 module _ (s : List ℕ) (kept : sheetRefusal s ≡ 0) where
   abbrev x : ℕ
-  x = sectionAt s 9
+  x = sectionAt s expressionsNumber
 
   abbrev start : ℕ
-  start = sectionAt s 10
+  start = sectionAt s operandsNumber
 
   pub follow : RunsFollow s x
   follow = runs-follow s x (accepted-expression s kept)
 
-  most : u16At s start ≤ 512
-  unfolding countRefusal countWithin
-  most =
-      let within = else-second (whole 2 s start) _ (accepted-count s kept 10 (omega arith)) in
-      leb-true (u16At s start) 512 (ask-kept (leb (u16At s start) 512) 3 (omega arith) (else-first _ _ within))
+  most : u16At s start ≤ sectionOf Operands .most
+  most = accepted-within s kept operandsNumber (omega arith) .1
 
   module _ (e : ℕ) (l : e < u16At s x) where
-    pub runs-within : (runsBefore s x (suc e) ≤ u16At s start) × (runsBefore s x (suc e) ≤ 512)
+    pub runs-within : (runsBefore s x (suc e) ≤ u16At s start) × (runsBefore s x (suc e) ≤ sectionOf Operands .most)
     runs-within =
         let rise : runsBefore s x (suc e) ≤ runsBefore s x (u16At s x) = runs-rise s x (suc e) (u16At s x) l in
         let n = accepted-runs s kept in

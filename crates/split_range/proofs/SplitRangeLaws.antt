@@ -1,4 +1,4 @@
--- An expression of an accepted sheet has at most 512 conjuncts, since no operand's are counted twice. Assumes nothing.
+-- An expression of an accepted sheet has at most as many conjuncts as there may be operands, since no operand's are counted twice. Assumes nothing.
 use Prim.Native.Nat.{ℕ, zero, suc, _+_, _-_, _≤_, _<_, min}
 use mathlib.Core.Path.{_≡_, refl, sym, ap, _∙_, subst}
 use mathlib.Core.Bool.{Bool, true, false, cond}
@@ -9,6 +9,7 @@ use lib.Dec.{ltb}
 use lib.ListN.{length, length-append}
 use borrow.Author.Tests.{ltb-true, ltb-false, eq-eqb}
 use Rattle.le.specs.Fields.{byteAt, u16At}
+use Rattle.layout.specs.Places.{operandLimit}
 use Rattle.records.specs.Lists.{tabulateFrom}
 use Rattle.records.specs.Expressions.{expressionAt}
 use Rattle.records.specs.declared.expressions.NaryOp.{NaryOp}
@@ -17,7 +18,7 @@ use Rattle.records.specs.declared.expressions.Expression.{Expression}
 use Rattle.records.specs.declared.expressions.Expression.the-variants.{Nary}
 use Rattle.expression_rules.specs.Operands.{expressionPlace, isNary, runLength, runsBefore}
 use Rattle.expression_rules.proofs.RunLaws.{runs-next}
-use Rattle.sheet.specs.Order.{sectionAt, sectionsIn}
+use Rattle.sheet.specs.Order.{expressionsNumber, operandsNumber, sectionAt, sectionsIn}
 use Rattle.sheet.specs.Check.{sheetRefusal}
 use Rattle.sheet.specs.Sheet.{Sheet, sheetIn}
 use Rattle.lawful.proofs.ExpressionLaws.{by-test}
@@ -47,10 +48,10 @@ flattened-sum c f w i (suc m) h =
 
 module _ (s : List ℕ) (kept : sheetRefusal s ≡ 0) where
   abbrev x : ℕ
-  x = sectionAt s 9
+  x = sectionAt s expressionsNumber
 
   abbrev start : ℕ
-  start = sectionAt s 10
+  start = sectionAt s operandsNumber
 
   abbrev sheet : Sheet
   sheet = sheetIn s
@@ -141,23 +142,23 @@ module _ (s : List ℕ) (kept : sheetRefusal s ≡ 0) where
           let b = ap (sum h) ends in
           omega arith
 
-  conjuncts-most : (e : ℕ) → many e ≤ 512
+  conjuncts-most : (e : ℕ) → many e ≤ operandLimit
   conjuncts-most e = go (andRun (expressionOf sheet e)) (fields e) (one e) most
     where
       shared : (o : ℕ) → (isNary s (expressionPlace x o) ≡ true → ⊥) → (run : AndRun) → Fields o run → ofRun run (many o) ≡ 0
       shared o never Absent k = refl
       shared o never (Present first count) k = absurd (never (k .1 .0))
 
-      most : e < u16At s x → ofAnd e ≤ 512
+      most : e < u16At s x → ofAnd e ≤ operandLimit
       most l =
           let w = runs-within s kept e l .1 in
           let m = slots-most slot (runsBefore s x) ofAnd many e (λ n h. run-conjuncts n (omega arith)) one (slot-below s kept e l) (λ i j h k q. shared (slot j) (slot-once s kept e l i j h k q) (andRun (expressionOf sheet (slot j))) (fields (slot j))) in
           omega arith
 
-      go : (run : AndRun) → Fields e run → many e ≤ suc (ofRun run (many e)) → (e < u16At s x → ofRun run (many e) ≤ 512) → many e ≤ 512
+      go : (run : AndRun) → Fields e run → many e ≤ suc (ofRun run (many e)) → (e < u16At s x → ofRun run (many e) ≤ operandLimit) → many e ≤ operandLimit
       go Absent k a m = omega arith
       go (Present first count) k a m = m (k .0)
 
 -- So two bytes hold the number of conjuncts, and it and they, of two bytes each, fill at most 1,026.
-pub accepted-split : (s : List ℕ) → sheetRefusal s ≡ 0 → (e : ℕ) → length (conjuncts (sheetIn s) e) ≤ 512
+pub accepted-split : (s : List ℕ) → sheetRefusal s ≡ 0 → (e : ℕ) → length (conjuncts (sheetIn s) e) ≤ operandLimit
 accepted-split s kept e = conjuncts-most s kept e

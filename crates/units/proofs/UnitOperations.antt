@@ -1,5 +1,5 @@
 -- Operations on values from 0 to 1 that give such values: the estimate with the bounds 0 and 1, the complement, the quotient by a number that is no less than 1, and the clamped sum. Assumes nothing.
-use mathlib.Core.Path.{_≡_, refl, ap, _∙_}
+use mathlib.Core.Path.{_≡_, refl, ap}
 use mathlib.Core.Bool.{Bool, true, false, cond}
 use Prim.Native.Nat.{_*_}
 use native.Mathlib.Nat.{le-refl, not-le-of-lt}

@@ -1,16 +1,17 @@
 -- The numbers are put in their order one by one, from the last to the first. Assumes nothing.
-use Prim.Native.Nat.{_≤_, _-_, _+_}
+use Prim.Native.Nat.{_≤_, _-_}
 use mathlib.Core.Path.{_≡_, refl}
 use native.Mathlib.Omega.{arith}
 use borrow.Author.Needs.{needs}
 use lib.ListN.{length}
+use Rattle.layout.specs.Places.{conjunctLimit}
 use Rattle.edge_order.specs.Order.{numberBefore, edgeOrder}
 use Rattle.edge_order.proofs.OrderLaws.{orderedFrom, order-first, order-next, order-all}
 use Rattle.edge_order.proofs.edge_order.Statement.{statement}
 use Rattle.edge_order.proofs.edge_order.Tie as tie
 
 abbrev Inv-loop : tie.InvT-loop
-Inv-loop distincts null-safes n order₀ k₀ order k = (k ≤ n) × ((n ≤ 64) × ((length order₀ ≡ 64) × ((length order ≡ length order₀) × (order ≡ orderedFrom (numberBefore distincts null-safes) n order₀ k))))
+Inv-loop distincts null-safes n order₀ k₀ order k = (k ≤ n) × ((n ≤ conjunctLimit) × ((length order₀ ≡ conjunctLimit) × ((length order ≡ length order₀) × (order ≡ orderedFrom (numberBefore distincts null-safes) n order₀ k))))
 
 abbrev μ-loop : tie.MeasureT-loop
 μ-loop distincts null-safes n order₀ k₀ order k = k

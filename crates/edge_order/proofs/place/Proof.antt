@@ -6,6 +6,7 @@ use borrow.Author.Needs.{needs}
 use borrow.Author.Tests.{not-true, not-false}
 use mathlib.Core.List.{_++_}
 use lib.ListN.{length, length-set, take, drop}
+use Rattle.layout.specs.Places.{conjunctLimit}
 use Rattle.edge_order.specs.Sort.{insert}
 use Rattle.edge_order.specs.Order.{numberBefore}
 use Rattle.edge_order.proofs.PlaceLaws.{placing, place-first, place-past, place-here, place-last}
@@ -13,10 +14,10 @@ use Rattle.edge_order.proofs.place.Statement.{statement}
 use Rattle.edge_order.proofs.place.Tie as tie
 
 abbrev Inv-loop : tie.InvT-loop
-Inv-loop distincts null-safes order₀ at x j₀ order j = (j ≤ 63) × ((length order₀ ≡ 64) × ((length order ≡ length order₀) × (placing (numberBefore distincts null-safes) x order j ≡ take at order₀ ++ insert (numberBefore distincts null-safes) x (drop (at + 1) order₀))))
+Inv-loop distincts null-safes order₀ at x j₀ order j = (j ≤ conjunctLimit - 1) × ((length order₀ ≡ conjunctLimit) × ((length order ≡ length order₀) × (placing (numberBefore distincts null-safes) x order j ≡ take at order₀ ++ insert (numberBefore distincts null-safes) x (drop (at + 1) order₀))))
 
 abbrev μ-loop : tie.MeasureT-loop
-μ-loop distincts null-safes order₀ at x j₀ order j = 63 - j
+μ-loop distincts null-safes order₀ at x j₀ order j = conjunctLimit - 1 - j
 
 loop-holds : tie.Need-loop-holds Inv-loop μ-loop
 loop-holds c = (omega arith, (c .before .before .before .pre .1, (refl, place-first _ _ _ _)))

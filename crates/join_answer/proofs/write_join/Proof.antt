@@ -5,10 +5,10 @@ use mathlib.Core.Bool.{Bool}
 use native.Mathlib.Omega.{arith}
 use borrow.Author.Needs.{needs, length-unmapped}
 use lib.ListN.{length, drop, length-map, length-take, length-drop}
+use Rattle.layout.specs.Places.{firstClassOffset}
 use Rattle.sheet.specs.Sheet.{sheetOf}
-use Rattle.class_state.specs.Sizes.{classesSize}
 use Rattle.class_state.specs.State.{noDistinct}
-use Rattle.class_state.proofs.SizeLaws.{class-count-below}
+use Rattle.class_state.proofs.SizeLaws.{classesSize, class-count-below}
 use Rattle.class_state.proofs.CountLaws.{counts-length, count-at, counts-size, counts-returned}
 use Rattle.class_state.proofs.UnionLaws.{read-any}
 use Rattle.class_state.proofs.ReturnedLaws.{Returned, returned-first, returned-within, returned-below, returned-room, returned-part, returned-next, returned-end, returned-all}
@@ -27,8 +27,8 @@ below a b h e = omega arith
 
 abbrev Inv-loop : tie.InvT-loop
 Inv-loop s conjuncts out₀ coverages n marks state roots counts marked classes size end at₀ root₀ out at root =
-    (size ≤ length out₀) × (end ≡ 64 + classesSize (state .roots)) × (64 + classesSize (state .roots) ≤ length out₀) × (length out ≡ length out₀) × (at ≤ length out) × (length out₀ < 2 ^ 64) × (at < end → root < 128)
-    × Returned state out₀ 64 out at root
+    (size ≤ length out₀) × (end ≡ firstClassOffset + classesSize (state .roots)) × (firstClassOffset + classesSize (state .roots) ≤ length out₀) × (length out ≡ length out₀) × (at ≤ length out) × (length out₀ < 2 ^ 64) × (at < end → root < 128)
+    × Returned state out₀ firstClassOffset out at root
 
 abbrev μ-loop : tie.MeasureT-loop
 μ-loop s conjuncts out₀ coverages n marks state roots counts marked classes size end at₀ root₀ out at root = 128 - root
@@ -94,8 +94,8 @@ returns c = let start = c .before .before .before .before .before .before .befor
     let short = c .if1 .taken in
     too-short _ _ (omega arith)
 
-put-figures-requires : tie.Need-put-figures-requires Inv-loop μ-loop
-put-figures-requires c κs = let room = c .before .if1 .left in omega arith
+put-figures-part-requires : tie.Need-put-figures-part-requires Inv-loop μ-loop
+put-figures-part-requires c κs = let room = c .before .if1 .left in omega arith
 
 sub-put-u16 : tie.Need-sub-put-u16 Inv-loop μ-loop
 sub-put-u16 c = let room = c .before .before .before .before .if1 .left in search needs
@@ -129,9 +129,9 @@ loop-holds c = let start = c .before .before .before .before .before .before .be
     let r = c .before .before .before .before .before .before .before .before .before .before .before .before .before .before .before .before .before .before .before .before .before .join-selectivity-from-conjuncts .result in
     let room = c .before .before .before .before .before .before .before .before .before .before .if1 .left in
     let z = c .before .before .before .before .before .before .before .before .before .before .before .counts-size .ensures .0 ∙ counts-size (r .classes .roots) _ (c .before .before .before .before .before .before .before .before .before .before .before .before .before .before .before .member-counts .ensures) in
-    let l = front-put-length (r .selectivity) (r .«match_probability») (r .«residual_selectivity») _ (start .args .out .now) _ _ _ (omega arith) (c .before .before .before .before .before .before .before .before .put-figures .ensures) refl (c .before .before .put-u16 .ensures) in
-    let k = at-most (64 + classesSize (r .classes .roots)) _ _ (omega arith) l in
-    (at-most _ _ _ room l, ap (λ (n : ℕ). 64 + n) z, k, refl, at-most 64 _ _ (omega arith) l, below _ (length (start .args .out .now)) (start .good .1 .1 .1 .0 .0) l, λ h. omega arith, returned-first (r .classes) _ 64 k)
+    let l = front-put-length (r .selectivity) (r .«match_probability») (r .«residual_selectivity») _ (start .args .out .now) _ _ _ (omega arith) (c .before .before .before .before .before .before .before .before .put-figures-part .ensures) refl (c .before .before .put-u16 .ensures) in
+    let k = at-most (firstClassOffset + classesSize (r .classes .roots)) _ _ (omega arith) l in
+    (at-most _ _ _ room l, ap (λ (n : ℕ). firstClassOffset + n) z, k, refl, at-most firstClassOffset _ _ (omega arith) l, below _ (length (start .args .out .now)) (start .good .1 .1 .1 .0 .0) l, λ h. omega arith, returned-first (r .classes) _ firstClassOffset k)
 
 cast-i : tie.Need-cast-i Inv-loop μ-loop
 cast-i c = let h = c .before .loop .inv .6 (c .loop-test .taken) in omega arith
@@ -161,13 +161,13 @@ put-returned-requires : tie.Need-put-returned-requires Inv-loop μ-loop
 put-returned-requires c κs = let l = c .before .before .before .before .loop in
     let h = l .inv .6 (c .before .before .before .loop-test .taken) in
     let r = c .before .before .before .before .before .before .before .before .before .before .before .before .before .before .before .before .before .before .before .before .before .before .before .before .before .before .join-selectivity-from-conjuncts .result in
-    (count-at (r .classes .roots) _ (l .root) (c .before .before .before .before .before .before .before .before .before .before .before .before .before .before .before .before .before .before .before .before .member-counts .ensures) h, returned-part (r .classes) _ 64 (l .inv .2) _ _ _ (l .inv .7) h)
+    (count-at (r .classes .roots) _ (l .root) (c .before .before .before .before .before .before .before .before .before .before .before .before .before .before .before .before .before .before .before .before .member-counts .ensures) h, returned-part (r .classes) _ firstClassOffset (l .inv .2) _ _ _ (l .inv .7) h)
 
 add-at : tie.Need-add-at Inv-loop μ-loop
 add-at c = let l = c .before .before .before .before .before .before .before .loop in
     let h = l .inv .6 (c .before .before .before .before .before .before .loop-test .taken) in
     let r = c .before .before .before .before .before .before .before .before .before .before .before .before .before .before .before .before .before .before .before .before .before .before .before .before .before .before .before .before .before .join-selectivity-from-conjuncts .result in
-    let m = returned-room (r .classes) _ 64 (l .inv .2) _ _ _ (l .inv .7) h in
+    let m = returned-room (r .classes) _ firstClassOffset (l .inv .2) _ _ _ (l .inv .7) h in
     let p = c .before .before .put-returned .ensures .0 in
     let k = l .inv .3 in
     let b = l .inv .5 in
@@ -187,9 +187,9 @@ loop-again c = let l = c .before .before .before .before .before .before .before
     let e = l .inv .1 in
     let p = c .before .before .put-returned .ensures in
     let d : length (r .classes .distincts) ≡ 128 = sym (length-map (r .classes .distincts) _) ∙ j .ok .1 .1 .1 .1 .1 .0 .1 .1 .1 .0 .1 .0 .1 in
-    let next = returned-next (r .classes) _ 64 (l .inv .2) (l .out) (l .at) (l .root) (l .inv .7) h _ _ _ _ (read-any (r .classes .distincts) (l .root) _ noDistinct (omega arith)) (p .0) refl (p .1) in
-    let k = returned-within (r .classes) _ 64 (l .inv .2) _ _ _ next in
-    (l .inv .0, l .inv .1, l .inv .2, k .0, k .1, l .inv .5, λ t. returned-below (r .classes) _ 64 (l .inv .2) _ _ _ next (omega arith), next)
+    let next = returned-next (r .classes) _ firstClassOffset (l .inv .2) (l .out) (l .at) (l .root) (l .inv .7) h _ _ _ _ (read-any (r .classes .distincts) (l .root) _ noDistinct (omega arith)) (p .0) refl (p .1) in
+    let k = returned-within (r .classes) _ firstClassOffset (l .inv .2) _ _ _ next in
+    (l .inv .0, l .inv .1, l .inv .2, k .0, k .1, l .inv .5, λ t. returned-below (r .classes) _ firstClassOffset (l .inv .2) _ _ _ next (omega arith), next)
 
 slice-aggregate-put-behind-classes : tie.Need-slice-aggregate-put-behind-classes Inv-loop μ-loop
 slice-aggregate-put-behind-classes c = search needs
@@ -215,7 +215,7 @@ put-behind-classes-requires c κs = let l = c .before .before .before .before .l
     let i = l .inv in
     let t = c .before .before .before .loop-test .left in
     let z = c .before .before .before .before .before .before .before .before .before .before .before .before .before .before .before .before .counts-size .ensures .0 ∙ counts-size (j .result .classes .roots) _ (c .before .before .before .before .before .before .before .before .before .before .before .before .before .before .before .before .before .before .before .before .member-counts .ensures) in
-    let a = returned-end (j .result .classes) _ 64 (i .2) _ _ _ (i .7) (omega arith) in
+    let a = returned-end (j .result .classes) _ firstClassOffset (i .2) _ _ _ (i .7) (omega arith) in
     let d = length-drop (l .at) (l .out) in
     let k = length-take (length (l .out) - l .at) (drop (l .at) (l .out)) in
     (m, coverages-below sheet (start .args .conjuncts .now) (j .result) (j .ensures .0) (start .pre), coverages-within sheet (start .args .conjuncts .now) (j .result) (j .ensures .0) _ _ (j .ensures .1), omega arith)
@@ -235,10 +235,10 @@ returns-2 c = let start = c .before .before .before .before .before .before .bef
     let l = c .before .before .before .before .before .before .before .loop in
     let e = l .inv .1 in
     let t = c .before .before .before .before .before .before .loop-test .left in
-    let figures = c .before .before .before .before .before .before .before .before .before .before .before .before .before .before .before .before .put-figures .ensures in
+    let figures = c .before .before .before .before .before .before .before .before .before .before .before .before .before .before .before .before .put-figures-part .ensures in
     let count = c .before .before .before .before .before .before .before .before .before .before .put-u16 .ensures in
-    let end = returned-end (r .classes) _ 64 (l .inv .2) _ _ _ (l .inv .7) (omega arith) in
-    let classes = returned-all (r .classes) _ 64 (l .inv .2) _ _ _ (l .inv .7) (omega arith) in
+    let end = returned-end (r .classes) _ firstClassOffset (l .inv .2) _ _ _ (l .inv .7) (omega arith) in
+    let classes = returned-all (r .classes) _ firstClassOffset (l .inv .2) _ _ _ (l .inv .7) (omega arith) in
     let front = front-put (r .selectivity) (r .«match_probability») (r .«residual_selectivity») _ lent _ _ _ (omega arith) figures refl count in
     let kept = front-put-length (r .selectivity) (r .«match_probability») (r .«residual_selectivity») _ lent _ _ _ (omega arith) figures refl count in
     let size = join-size sheet conjuncts r (j .ensures .0) _ counts _ _ (c .before .before .before .before .before .before .before .before .before .before .before .before .before .before .before .before .before .before .before .counts-size .ensures .0) (c .before .before .before .before .before .before .before .before .before .before .before .before .before .before .before .before .before .before .before .before .before .marked-count .ensures) in
@@ -265,7 +265,7 @@ write-join-spec =
     mul-size-2
     add-size-3
     returns
-    put-figures-requires
+    put-figures-part-requires
     sub-put-u16
     part-put-u16-start
     part-put-u16-end

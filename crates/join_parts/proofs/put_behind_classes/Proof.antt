@@ -2,7 +2,6 @@
 use mathlib.Core.Path.{refl, sym, _∙_}
 use native.Mathlib.Omega.{arith}
 use Rattle.le.proofs.OntoLaws.{onto-part}
-use Rattle.join_parts.specs.Parts.{behindClasses}
 use Rattle.join_parts.proofs.PartLaws.{coverages-part-length}
 use borrow.Author.Needs.{needs}
 use Rattle.join_parts.proofs.put_behind_classes.Statement.{statement}
@@ -27,7 +26,6 @@ same-length : tie.Need-same-length
 same-length c = search needs
 
 returns : tie.Need-returns
-unfolding behindClasses
 returns c = let p = c .before .before in
     let u = p .before .before .before .before in
     let z = u .before .before .before .before .before in

@@ -1,7 +1,6 @@
 -- The count, then the columns behind it. Assumes nothing.
 use mathlib.Core.Path.{refl}
 use native.Mathlib.Omega.{arith}
-use Rattle.join_parts.specs.Parts.{columnsPart}
 use Rattle.equality_pairs.proofs.MarkedLaws.{marked-below}
 use Rattle.join_parts.proofs.PartLaws.{counted-written}
 use borrow.Author.Needs.{needs}
@@ -30,7 +29,6 @@ same-length : tie.Need-same-length
 same-length c = search needs
 
 returns : tie.Need-returns
-unfolding columnsPart
 returns c = let p = c .before .before in
     let u = p .before .before .before .before in
     let start = u .before .before .before .before in

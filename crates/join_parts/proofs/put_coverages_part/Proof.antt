@@ -1,7 +1,6 @@
 -- The count, then the bytes behind it. Assumes nothing.
 use mathlib.Core.Path.{refl}
 use native.Mathlib.Omega.{arith}
-use Rattle.join_parts.specs.Parts.{coveragesPart}
 use Rattle.join_parts.proofs.PartLaws.{counted-written}
 use borrow.Author.Needs.{needs}
 use Rattle.join_parts.proofs.put_coverages_part.Statement.{statement}
@@ -38,7 +37,6 @@ same-length : tie.Need-same-length
 same-length c = search needs
 
 returns : tie.Need-returns
-unfolding coveragesPart
 returns c = let p = c .before .before in
     let u = p .before .before .before .before in
     let a = u .before .before .before .before .args in

@@ -1,18 +1,19 @@
--- The count 1, then the three figures. Assumes nothing.
+-- The three figures one after the other. Assumes nothing.
 use Prim.Native.Nat.{ℕ}
 use mathlib.Core.Path.{refl, ap, _∙_}
 use mathlib.Core.List.{List}
 use native.Mathlib.Omega.{arith}
 use Rattle.le.specs.Fields.{fieldBytes, onto}
 use Rattle.le.proofs.OntoLaws.{onto-part}
+use Rattle.layout.specs.Places.{figuresMatchOffset, figuresResidualOffset}
 use Rattle.estimate.specs.Bytes.{estimateBytes}
 use Rattle.join_parts.proofs.PartLaws.{figures-joined}
 use borrow.Author.Needs.{needs}
 use Rattle.join_parts.proofs.put_figures.Statement.{statement}
 use Rattle.join_parts.proofs.put_figures.Tie as tie
 
-put-u16-requires : tie.Need-put-u16-requires
-put-u16-requires c κs = search needs
+put-estimate-requires : tie.Need-put-estimate-requires
+put-estimate-requires c κs = search needs
 
 sub-put-estimate : tie.Need-sub-put-estimate
 sub-put-estimate c = search needs
@@ -22,18 +23,6 @@ part-put-estimate-start c = search needs
 
 part-put-estimate-end : tie.Need-part-put-estimate-end
 part-put-estimate-end c = search needs
-
-put-estimate-requires : tie.Need-put-estimate-requires
-put-estimate-requires c κs = search needs
-
-sub-put-estimate-2 : tie.Need-sub-put-estimate-2
-sub-put-estimate-2 c = search needs
-
-part-put-estimate-start-2 : tie.Need-part-put-estimate-start-2
-part-put-estimate-start-2 c = search needs
-
-part-put-estimate-end-2 : tie.Need-part-put-estimate-end-2
-part-put-estimate-end-2 c = search needs
 
 put-estimate-requires-2 : tie.Need-put-estimate-requires-2
 put-estimate-requires-2 c κs = search needs
@@ -55,28 +44,22 @@ same-length c = search needs
 
 returns : tie.Need-returns
 unfolding fieldBytes estimateBytes
-returns c = let p4 = c .before .before in
-    let p3 = p4 .before .before .before .before in
+returns c = let p3 = c .before .before in
     let p2 = p3 .before .before .before .before in
     let p1 = p2 .before .before .before .before in
     let a = p1 .before .before .before .args in
-    let x2 = onto-part _ _ _ _ _ 2 _ refl refl (omega arith) (p1 .put-u16 .ensures) (p2 .put-estimate .ensures) in
-    let x3 = onto-part _ _ _ _ _ 28 _ refl refl (omega arith) x2 (p3 .put-estimate2 .ensures) in
-    onto-part _ _ _ _ _ 54 _ refl refl (omega arith) x3 (p4 .put-f64 .ensures)
+    let x2 = onto-part _ _ _ _ _ figuresMatchOffset _ refl refl (omega arith) (p1 .put-estimate .ensures) (p2 .put-estimate2 .ensures) in
+    onto-part _ _ _ _ _ figuresResidualOffset _ refl refl (omega arith) x2 (p3 .put-f64 .ensures)
     ∙ ap (λ (bs : List ℕ). onto bs (a .out .now)) (figures-joined (a .selectivity) (a .match-probability) (a .residual-selectivity))
 
 pub put-figures-spec : {M : Type 1} → statement M
 put-figures-spec =
     tie.close
     (tie.spec
-    put-u16-requires
+    put-estimate-requires
     sub-put-estimate
     part-put-estimate-start
     part-put-estimate-end
-    put-estimate-requires
-    sub-put-estimate-2
-    part-put-estimate-start-2
-    part-put-estimate-end-2
     put-estimate-requires-2
     sub-put-f64
     part-put-f64-start

@@ -1,69 +1,26 @@
--- The loop finds the row count of a table. Assumes nothing.
-use Prim.Native.Nat.{_-_, _≤_}
-use mathlib.Core.Path.{_≡_}
-use native.Mathlib.Omega.{arith}
-use Rattle.le.specs.Fields.{u16At}
-use Rattle.keys.proofs.KeyLaws.{CountRest, count-first, count-next, count-found, count-none}
+-- The row count of the table that the scan finds. Assumes nothing.
+use mathlib.Core.Path.{ap, _∙_}
+use Rattle.keys.specs.Keys.{rowsOf}
+use Rattle.keys.proofs.KeyLaws.{count-found, count-none}
+use borrow.Author.Needs.{needs}
 use Rattle.keys.proofs.row_count.Statement.{statement}
 use Rattle.keys.proofs.row_count.Tie as tie
 
-abbrev Inv-loop : tie.InvT-loop
-Inv-loop s start table n i₀ i = (n ≡ u16At s start) × (n ≤ 65535) × CountRest s start table i
+first-place-requires : tie.Need-first-place-requires
+first-place-requires c κs = search needs
 
-abbrev μ-loop : tie.MeasureT-loop
-μ-loop s start table n i₀ i = n - i
+returns : tie.Need-returns
+returns c = count-none (c .before .before .before .args .s .now) _ _ _ (c .before .first-place .ensures) (c .if1 .taken)
 
-u16-at-requires : tie.Need-u16-at-requires Inv-loop μ-loop
-u16-at-requires c κs = omega arith
+cast-table-at : tie.Need-cast-table-at
+cast-table-at c = search needs
 
-cast-n : tie.Need-cast-n Inv-loop μ-loop
-cast-n c = omega arith
+table-at-requires : tie.Need-table-at-requires
+table-at-requires c κs = search needs
 
-loop-holds : tie.Need-loop-holds Inv-loop μ-loop
-loop-holds c = (c .u16-at .ensures, omega arith, count-first _ _ _)
-
-add-table-at : tie.Need-add-table-at Inv-loop μ-loop
-add-table-at c = omega arith
-
-mul-table-at : tie.Need-mul-table-at Inv-loop μ-loop
-mul-table-at c = omega arith
-
-add-table-at-2 : tie.Need-add-table-at-2 Inv-loop μ-loop
-add-table-at-2 c = omega arith
-
-table-at-requires : tie.Need-table-at-requires Inv-loop μ-loop
-table-at-requires c κs = omega arith
-
-returns : tie.Need-returns Inv-loop μ-loop
-returns c = count-found (c .before .before .before .before .before .before .before .args .s .now) _ _ _ (omega arith) _ (c .before .before .table-at .ensures) (c .if1 .taken) (c .before .before .before .before .loop .inv .2)
-
-add-i : tie.Need-add-i Inv-loop μ-loop
-add-i c = omega arith
-
-loop-less : tie.Need-loop-less Inv-loop μ-loop
-loop-less c = omega arith
-
-loop-again : tie.Need-loop-again Inv-loop μ-loop
-loop-again c = (c .before .before .before .before .loop .inv .0, c .before .before .before .before .loop .inv .1, count-next (c .before .before .before .before .before .before .before .args .s .now) _ _ _ (omega arith) _ (c .before .before .table-at .ensures) (c .if1 .left) (c .before .before .before .before .loop .inv .2))
-
-returns-2 : tie.Need-returns-2 Inv-loop μ-loop
-returns-2 c = count-none (c .before .before .before .before .args .s .now) _ _ _ (omega arith) (c .before .loop .inv .2)
+returns-2 : tie.Need-returns-2
+returns-2 c = ap rowsOf (c .table-at .ensures) ∙ count-found (c .before .before .before .before .args .s .now) _ _ _ (c .before .before .first-place .ensures) (c .before .if1 .left)
 
 pub row-count-spec : {M : Type 1} → statement M
 row-count-spec =
-    tie.close
-    (tie.spec
-    Inv-loop
-    μ-loop
-    u16-at-requires
-    cast-n
-    loop-holds
-    add-table-at
-    mul-table-at
-    add-table-at-2
-    table-at-requires
-    returns
-    add-i
-    loop-less
-    loop-again
-    returns-2)
+    tie.close (tie.spec first-place-requires returns cast-table-at table-at-requires returns-2)

@@ -5,7 +5,6 @@ use mathlib.Core.Path.{refl, sym, _∙_}
 use borrow.Author.Needs.{needs}
 use Rattle.parts.proofs.column_ref.Statement.{statement}
 use Rattle.parts.proofs.column_ref.Tie as tie
-use Rattle.parts.proofs.column_ref.Reads as reads
 
 expression-kind-requires : tie.Need-expression-kind-requires
 expression-kind-requires c κs = search needs

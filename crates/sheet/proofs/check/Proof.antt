@@ -4,7 +4,8 @@ use Rattle.sheet.proofs.RoomLaws.{next-room}
 use Rattle.sheet.proofs.PlaceLaws.{startsBefore, starts-next, starts-all, Short, short-none, short-set}
 use Rattle.sheet.proofs.VerdictLaws.{refused-back, end-back, section-told, sheet-long, sheet-broken, sheet-end}
 use Rattle.sheet.specs.Check.{refusalIn}
-use Rattle.sheet.specs.Order.{sectionAt, sectionsOf, sectionsIn}
+use Rattle.layout.specs.Places.{sheetLimit}
+use Rattle.sheet.specs.Order.{sectionCount, sketchesNumber, expressionsNumber, sectionAt, sectionsOf, sectionsIn}
 use Rattle.rules.proofs.RuleLaws.{rest-next, rest-broken, rest-none}
 use Rattle.rules.specs.Rules.{firstRefusal}
 use lib.ListN.{length}
@@ -23,12 +24,12 @@ none j h = omega arith
 
 abbrev Inv-loop : tie.InvT-loop
 Inv-loop s starts₀ at₀ k₀ starts at k =
-    (firstRefusal (refusalIn s) k (12 - k) ≡ firstRefusal (refusalIn s) 0 12)
+    (firstRefusal (refusalIn s) k (sectionCount - k) ≡ firstRefusal (refusalIn s) 0 sectionCount)
     × ((starts ≡ startsBefore s k) × (at ≡ sectionAt s k))
-    × ((k ≤ 12) × ((at ≤ length s) × ((length s ≤ 65535) × (Short starts × ((j : ℕ) → j < k → refusalIn s j ≡ 0)))))
+    × ((k ≤ sectionCount) × ((at ≤ length s) × ((length s ≤ sheetLimit) × (Short starts × ((j : ℕ) → j < k → refusalIn s j ≡ 0)))))
 
 abbrev μ-loop : tie.MeasureT-loop
-μ-loop s starts₀ at₀ k₀ starts at k = 12 - k
+μ-loop s starts₀ at₀ k₀ starts at k = sectionCount - k
 
 returns : tie.Need-returns Inv-loop μ-loop
 returns c = sheet-long _ (c .if1 .taken)
@@ -53,16 +54,16 @@ array-read-section : tie.Need-array-read-section Inv-loop μ-loop
 array-read-section c = search needs
 
 cast-section : tie.Need-cast-section Inv-loop μ-loop
-cast-section c = let few = short-set (c .before .before .loop .starts) (c .before .before .loop .k) (c .before .before .loop .at) (omega arith) (c .before .before .loop .inv .2 .1 .1 .1 .0) .each 2 in omega arith
+cast-section c = let few = short-set (c .before .before .loop .starts) (c .before .before .loop .k) (c .before .before .loop .at) (omega arith) (c .before .before .loop .inv .2 .1 .1 .1 .0) .each sketchesNumber in omega arith
 
 array-read-section-2 : tie.Need-array-read-section-2 Inv-loop μ-loop
 array-read-section-2 c = search needs
 
 cast-section-2 : tie.Need-cast-section-2 Inv-loop μ-loop
-cast-section-2 c = let few = short-set (c .before .before .loop .starts) (c .before .before .loop .k) (c .before .before .loop .at) (omega arith) (c .before .before .loop .inv .2 .1 .1 .1 .0) .each 9 in omega arith
+cast-section-2 c = let few = short-set (c .before .before .loop .starts) (c .before .before .loop .k) (c .before .before .loop .at) (omega arith) (c .before .before .loop .inv .2 .1 .1 .1 .0) .each expressionsNumber in omega arith
 
 section-requires : tie.Need-section-requires Inv-loop μ-loop
-section-requires c κs = (((omega arith, omega arith), runs-known _ _ _ _ _ (c .before .before .loop .inv .1 .0) (c .kind-at .ensures) (c .before .before .loop .inv .2 .1 .1 .1 .1)), short-set (c .before .before .loop .starts) (c .before .before .loop .k) (c .before .before .loop .at) (omega arith) (c .before .before .loop .inv .2 .1 .1 .1 .0) .each 9)
+section-requires c κs = (((omega arith, omega arith), runs-known _ _ _ _ _ (c .before .before .loop .inv .1 .0) (c .kind-at .ensures) (c .before .before .loop .inv .2 .1 .1 .1 .1)), short-set (c .before .before .loop .starts) (c .before .before .loop .k) (c .before .before .loop .at) (omega arith) (c .before .before .loop .inv .2 .1 .1 .1 .0) .each expressionsNumber)
 
 enum-known-reached : tie.Need-enum-known-reached Inv-loop μ-loop
 enum-known-reached c = search needs
@@ -108,8 +109,8 @@ verdict-requires c κs = search needs
 returns-3 : tie.Need-returns-3 Inv-loop μ-loop
 returns-3 c =
     let l = c .before .before .before .before .loop in
-    let done : l .k ≡ 12 = le-antisymm (l .inv .2 .0) (c .before .before .before .loop-test .left) in
-    let end : l .at ≡ sectionAt _ 12 = l .inv .1 .1 ∙ ap (sectionAt _) done in
+    let done : l .k ≡ sectionCount = le-antisymm (l .inv .2 .0) (c .before .before .before .loop-test .left) in
+    let end : l .at ≡ sectionAt _ sectionCount = l .inv .1 .1 ∙ ap (sectionAt _) done in
     let starts : sectionsOf (l .starts) ≡ sectionsIn _ = ap sectionsOf (l .inv .1 .0 ∙ ap (startsBefore _) done) ∙ starts-all _ in
     rw (c .verdict .ensures, c .before .before .ask .ensures) (sheet-end _ _ _ (l .inv .2 .1 .1 .0) (rest-none _ _ _ _ (l .inv .0) (c .before .before .before .loop-test .left)) end (c .before .sections-of .ensures ∙ starts))
 

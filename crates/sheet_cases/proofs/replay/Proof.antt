@@ -4,11 +4,12 @@ use lib.ListN.{length}
 use Prim.Native.Nat.{_-_, _≤_}
 use mathlib.Core.Path.{_≡_}
 use native.Mathlib.Omega.{arith}
+use Rattle.sheet_claims.specs.Commands.{commandSize}
 use Rattle.sheet_cases.proofs.replay.Statement.{statement}
 use Rattle.sheet_cases.proofs.replay.Tie as tie
 
 abbrev Inv-loop : tie.InvT-loop
-Inv-loop sheet₀ answer₀ cases₀ differ₀ command₀ i₀ sheet answer cases differ command i = (i ≤ 1000000) × (length sheet ≡ length sheet₀) × (length answer ≡ length answer₀) × (length cases ≡ length cases₀) × (length differ ≡ length differ₀) × (length command ≡ 32)
+Inv-loop sheet₀ answer₀ cases₀ differ₀ command₀ i₀ sheet answer cases differ command i = (i ≤ 1000000) × (length sheet ≡ length sheet₀) × (length answer ≡ length answer₀) × (length cases ≡ length cases₀) × (length differ ≡ length differ₀) × (length command ≡ commandSize)
 
 abbrev μ-loop : tie.MeasureT-loop
 μ-loop sheet₀ answer₀ cases₀ differ₀ command₀ i₀ sheet answer cases differ command i = 1000000 - i

@@ -2,21 +2,23 @@
 use borrow.Author.Needs.{needs}
 use lib.ListN.{length, drop}
 use Prim.Native.Nat.{_+_, _-_, _*_, _≤_}
-use mathlib.Core.Path.{_≡_, refl, sym, _∙_}
+use mathlib.Core.Path.{_≡_, sym, _∙_}
 use native.Mathlib.Omega.{arith}
-use Rattle.sheet_claims.proofs.PlaceLaws.{places-next, places-differ, places-end}
+use Rattle.layout.specs.Places.{numberSize}
+use Rattle.sheet_claims.proofs.PlaceLaws.{places-first, places-next, places-differ, places-end}
+use Rattle.sheet.specs.Order.{sectionCount}
 use Rattle.sheet_claims.specs.Claims.{samePlaces}
 use Rattle.sheet_claims.proofs.same_places.Statement.{statement}
 use Rattle.sheet_claims.proofs.same_places.Tie as tie
 
 abbrev Inv-loop : tie.InvT-loop
-Inv-loop c places i₀ i = (i ≤ 12) × (length places ≡ 12) × (samePlaces (drop i places) c (8 + 2 * i) ≡ samePlaces places c 8)
+Inv-loop a at places i₀ i = (i ≤ sectionCount) × (length places ≡ sectionCount) × (samePlaces (drop i places) a (at + numberSize * i) ≡ samePlaces places a at)
 
 abbrev μ-loop : tie.MeasureT-loop
-μ-loop c places i₀ i = 12 - i
+μ-loop a at places i₀ i = sectionCount - i
 
 loop-holds : tie.Need-loop-holds Inv-loop μ-loop
-loop-holds c = (omega arith, search needs, refl)
+loop-holds c = (omega arith, search needs, places-first _ _ _)
 
 mul-if1 : tie.Need-mul-if1 Inv-loop μ-loop
 mul-if1 c = search needs
@@ -37,7 +39,7 @@ returns : tie.Need-returns Inv-loop μ-loop
 returns c =
     let l = c .before .before .before .loop in
     let a = c .before .before .before .before .before .args in
-    places-differ (a .t1) (a .c .now) (l .i) _ (omega arith) (λ e. c .if1 .taken (e ∙ sym (c .before .u16-at .ensures))) (l .inv .2)
+    places-differ (a .t1) (a .a .now) (a .at) (l .i) _ (omega arith) (λ e. c .if1 .taken (e ∙ sym (c .before .u16-at .ensures))) (l .inv .2)
 
 add-i : tie.Need-add-i Inv-loop μ-loop
 add-i c = omega arith
@@ -49,13 +51,13 @@ loop-again : tie.Need-loop-again Inv-loop μ-loop
 loop-again c =
     let l = c .before .before .before .loop in
     let a = c .before .before .before .before .before .args in
-    (omega arith, l .inv .1, places-next (a .t1) (a .c .now) (l .i) _ (omega arith) (c .if1 .left ∙ c .before .u16-at .ensures) (l .inv .2))
+    (omega arith, l .inv .1, places-next (a .t1) (a .a .now) (a .at) (l .i) _ (omega arith) (c .if1 .left ∙ c .before .u16-at .ensures) (l .inv .2))
 
 returns-2 : tie.Need-returns-2 Inv-loop μ-loop
 returns-2 c =
     let l = c .before .loop in
     let a = c .before .before .before .args in
-    places-end (a .t1) (a .c .now) (l .i) _ (omega arith) (l .inv .2)
+    places-end (a .t1) (a .a .now) (a .at) (l .i) _ (omega arith) (l .inv .2)
 
 pub same-places-spec : {M : Type 1} → statement M
 same-places-spec =

@@ -6,7 +6,6 @@ use mathlib.Core.Path.{refl}
 use borrow.Author.Needs.{needs}
 use Rattle.sketch.proofs.numbered_selectivity.Statement.{statement}
 use Rattle.sketch.proofs.numbered_selectivity.Tie as tie
-use Rattle.sketch.proofs.numbered_selectivity.Reads as reads
 
 u16-at-requires : tie.Need-u16-at-requires
 u16-at-requires c κs = search needs

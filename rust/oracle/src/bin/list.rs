@@ -1,6 +1,6 @@
 //! Writes a list for the program `sheet_cases`, which replays it: the commands that standard input
 //! has, then sheets with the source's answers, and refused sheets. Standard error gets the lines that
-//! the program has to write. `tests/make_sheet_cases.py` describes the commands of 32 bytes.
+//! the program has to write. `tests/make_sheet_cases.py` describes the commands.
 
 use oracle::answer::{Answers, predicate_bytes, split_bytes};
 use oracle::copies::{BLOCKS, SLIPS};
@@ -81,12 +81,31 @@ struct List {
     answer: Buffer,
 }
 
-/// An answer's place and length, as a claim has them.
+/// Where the bytes that are to come out stand and how many they are, as a claim has it.
 fn extent(place: usize, length: usize) -> [u8; 8] {
     let mut bytes = [0; 8];
     bytes[..4].copy_from_slice(&(place as u32).to_le_bytes());
     bytes[4..].copy_from_slice(&(length as u32).to_le_bytes());
     bytes
+}
+
+/// What is to come out of an accepted sheet, each with its kind and its expression: where the sections
+/// are, the join, then all predicates and all splits.
+fn expected(read: &Read, answers: &Answers) -> Vec<(u8, u16, Vec<u8>)> {
+    let places = read.sections.iter().flat_map(|place| place.to_le_bytes());
+    let mut all = vec![
+        (ACCEPTED_SHEET, 0, places.collect()),
+        (JOIN, 0, answers.join.bytes()),
+    ];
+    let predicates = answers.predicates.iter().map(predicate_bytes);
+    all.extend(
+        (0..)
+            .zip(predicates)
+            .map(|(e, bytes)| (PREDICATE, e, bytes)),
+    );
+    let splits = answers.splits.iter().map(|split| split_bytes(split));
+    all.extend((0..).zip(splits).map(|(e, bytes)| (SPLIT, e, bytes)));
+    all
 }
 
 impl List {
@@ -96,40 +115,18 @@ impl List {
             .push(command(REFUSED_SHEET, number, 0, bytes.len(), &[]));
     }
 
-    fn accepted(&mut self, bytes: &[u8], read: &Read) {
+    /// A sheet, what is to come out one behind the other, and a claim for each.
+    fn accepted(&mut self, bytes: &[u8], read: &Read, answers: &Answers) {
+        let mut all = Vec::new();
+        let mut claims = Vec::new();
+        for (kind, number, expected) in expected(read, answers) {
+            let extent = extent(all.len(), expected.len());
+            claims.push(command(kind, 0, number, bytes.len(), &extent));
+            all.extend(expected);
+        }
         self.sheet.put(bytes, &mut self.commands);
-        let places: Vec<u8> = read
-            .sections
-            .iter()
-            .flat_map(|place| place.to_le_bytes())
-            .collect();
-        self.commands
-            .push(command(ACCEPTED_SHEET, 0, 0, bytes.len(), &places));
-    }
-
-    /// The answers one behind the other, and a claim for each.
-    fn answers(&mut self, length: usize, answers: &Answers) {
-        let mut all = answers.join.bytes();
-        let mut claims = vec![(JOIN, 0, 0, all.len())];
-        let predicates = answers
-            .predicates
-            .iter()
-            .map(predicate_bytes)
-            .map(|bytes| (PREDICATE, bytes));
-        let splits = answers
-            .splits
-            .iter()
-            .map(|split| (SPLIT, split_bytes(split)));
-        let numbers = 0..answers.predicates.len() as u16;
-        for (number, (kind, bytes)) in numbers.clone().zip(predicates).chain(numbers.zip(splits)) {
-            claims.push((kind, number, all.len(), bytes.len()));
-            all.extend(bytes);
-        }
         self.answer.put(&all, &mut self.commands);
-        for (kind, number, place, answer) in claims {
-            self.commands
-                .push(command(kind, 0, number, length, &extent(place, answer)));
-        }
+        self.commands.extend(claims);
     }
 }
 
@@ -185,11 +182,8 @@ fn list_accepted(list: &mut List) {
     for sheet in worked::accepted().into_iter().chain(drawn) {
         let bytes = sheet::writer::write(&sheet);
         let read = read(&bytes).unwrap_or_else(|refusal| panic!("{sheet:?}: {refusal:?}"));
-        list.accepted(&bytes, &read);
-        list.answers(
-            bytes.len(),
-            &oracle::copies::with_power::answers(&read.sheet),
-        );
+        let answers = oracle::copies::with_power::answers(&read.sheet);
+        list.accepted(&bytes, &read, &answers);
     }
 }
 

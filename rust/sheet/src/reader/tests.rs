@@ -1,6 +1,7 @@
 use super::*;
 use crate::samples;
-use crate::values::{Field, Holds};
+use crate::text::section_name;
+use crate::values::{Field, Holds, SECTIONS};
 use crate::writer::{fields, scalar_bytes, write};
 
 /// A field by its section, record, item and name.
@@ -237,6 +238,53 @@ fn counts_outside_their_limits_give_3() {
     }
     for other in [0, 4, 6, 261] {
         refused_there(&sheet, 3, count(Section::Settings), &u16s(other));
+    }
+}
+
+/// docs/FORMAT.md has these words.
+#[track_caller]
+fn documented(words: &str) {
+    let page = include_str!("../../../../docs/FORMAT.md");
+    assert!(page.contains(words), "docs/FORMAT.md has no '{words}'");
+}
+
+#[test]
+fn the_documented_sizes() {
+    let sizes = [
+        ("estimate", ESTIMATE_SIZE),
+        ("scalar", SCALAR_SIZE),
+        ("table", TABLE_SIZE),
+        ("key", KEY_SIZE),
+        ("column", COLUMN_SIZE),
+        ("expression", EXPRESSION_SIZE),
+    ];
+    for (part, size) in sizes {
+        documented(&format!("| {part} | {size} |"));
+    }
+    documented(&format!(
+        "| sketch: head, each item | {SKETCH_HEAD_SIZE}, {SKETCH_ITEM_SIZE} |"
+    ));
+    documented(&format!(
+        "| class: head, each column | {CLASS_HEAD_SIZE}, 2 |"
+    ));
+    let [shortest, longest] = [samples::empty(), samples::largest()].map(|s| write(&s).len());
+    documented(&format!(
+        "The shortest sheet has {shortest} bytes, and one with every section full {},{:03},",
+        longest / 1000,
+        longest % 1000
+    ));
+}
+
+#[test]
+fn the_documented_counts() {
+    for (number, section) in (1..).zip(SECTIONS) {
+        let limits = counts(section);
+        let limits = match limits.start() == limits.end() {
+            true => limits.end().to_string(),
+            false => format!("{}..{}", limits.start(), limits.end()),
+        };
+        let name = section_name(section);
+        documented(&format!("| {number} | {name} | {limits} |"));
     }
 }
 

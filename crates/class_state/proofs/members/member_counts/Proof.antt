@@ -18,6 +18,9 @@ abbrev μ-loop : tie.MeasureT-loop
 loop-holds : tie.Need-loop-holds Inv-loop μ-loop
 loop-holds c = (omega arith, refl, counted-first _)
 
+cast-loop : tie.Need-cast-loop Inv-loop μ-loop
+cast-loop c = omega arith
+
 slice-aggregate-raise : tie.Need-slice-aggregate-raise Inv-loop μ-loop
 slice-aggregate-raise c = search needs
 
@@ -48,6 +51,7 @@ member-counts-spec =
     Inv-loop
     μ-loop
     loop-holds
+    cast-loop
     slice-aggregate-raise
     root-of-requires
     raise-requires

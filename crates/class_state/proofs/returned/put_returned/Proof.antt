@@ -9,6 +9,9 @@ use borrow.Author.Needs.{needs}
 use Rattle.class_state.proofs.returned.put_returned.Statement.{statement}
 use Rattle.class_state.proofs.returned.put_returned.Tie as tie
 
+cast-if1 : tie.Need-cast-if1
+cast-if1 c = search needs
+
 put-class-requires : tie.Need-put-class-requires
 put-class-requires c κs =
     let start = c .before .before .before .before in
@@ -36,4 +39,4 @@ returns-2 c =
     (size-not (a .roots .now) (a .root) (a .count) (start .pre .0) (c .if1 .left), ap (λ (bs : List ℕ). onto bs (a .out .now)) (bytes-not (a .roots .now) (a .root) (a .count) (start .pre .0) _ (c .if1 .left)))
 
 pub put-returned-spec : {M : Type 1} → statement M
-put-returned-spec = tie.close (tie.spec put-class-requires same-length returns returns-2)
+put-returned-spec = tie.close (tie.spec cast-if1 put-class-requires same-length returns returns-2)

@@ -23,6 +23,9 @@ shared-slice-read-one-if c = let h = c .before .loop-test .taken in
     let n = c .before .before .before .before .pre in
     omega arith
 
+cast-one-if : tie.Need-cast-one-if Inv-loop μ-loop
+cast-one-if c = omega arith
+
 one-if-requires : tie.Need-one-if-requires Inv-loop μ-loop
 one-if-requires c κs = tt
 
@@ -62,6 +65,7 @@ returned-count-spec =
     μ-loop
     loop-holds
     shared-slice-read-one-if
+    cast-one-if
     one-if-requires
     cast-n
     add-n

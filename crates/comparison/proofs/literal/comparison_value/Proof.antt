@@ -2,6 +2,8 @@
 use Rattle.comparison.specs.Literal.{comparisonValue}
 use lib.Ieee.{ofBits}
 use mathlib.Core.Path.{refl}
+use Rattle.sheet.specs.Order.{recordAt}
+use Rattle.sheet.specs.Sheet.{sheetOf}
 use borrow.Author.Needs.{needs}
 use Rattle.comparison.proofs.literal.comparison_value.Statement.{statement}
 use Rattle.comparison.proofs.literal.comparison_value.Tie as tie
@@ -88,19 +90,19 @@ unfolding comparisonValue ofBits
 returns-3 c = rw (c .f64-max .ensures, c .before .equality-part2 .ensures, c .before .before .enum-told3 .given .1) refl
 
 returns-4 : tie.Need-returns-4
-unfolding comparisonValue
+unfolding comparisonValue sheetOf recordAt
 returns-4 c = rw (c .range-part .ensures, c .before .enum-told4 .given .1) refl
 
 returns-5 : tie.Need-returns-5
-unfolding comparisonValue
+unfolding comparisonValue sheetOf recordAt
 returns-5 c = rw (c .range-part2 .ensures, c .before .enum-told5 .given .1) refl
 
 returns-6 : tie.Need-returns-6
-unfolding comparisonValue
+unfolding comparisonValue sheetOf recordAt
 returns-6 c = rw (c .range-part3 .ensures, c .before .enum-told6 .given .1) refl
 
 returns-7 : tie.Need-returns-7
-unfolding comparisonValue
+unfolding comparisonValue sheetOf recordAt
 returns-7 c = rw (c .range-part4 .ensures, c .before .enum-told7 .given .1) refl
 
 returns-8 : tie.Need-returns-8

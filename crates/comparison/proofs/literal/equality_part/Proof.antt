@@ -4,7 +4,6 @@ use mathlib.Core.Path.{refl}
 use borrow.Author.Needs.{needs}
 use Rattle.comparison.proofs.literal.equality_part.Statement.{statement}
 use Rattle.comparison.proofs.literal.equality_part.Tie as tie
-use Rattle.comparison.proofs.literal.equality_part.Reads as reads
 
 scalar-at-requires : tie.Need-scalar-at-requires
 scalar-at-requires c κs = search needs

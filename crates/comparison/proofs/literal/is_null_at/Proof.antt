@@ -5,7 +5,6 @@ use mathlib.Core.Path.{refl, sym, _∙_}
 use borrow.Author.Needs.{needs}
 use Rattle.comparison.proofs.literal.is_null_at.Statement.{statement}
 use Rattle.comparison.proofs.literal.is_null_at.Tie as tie
-use Rattle.comparison.proofs.literal.is_null_at.Reads as reads
 
 byte-at-requires : tie.Need-byte-at-requires
 byte-at-requires c κs = search needs

@@ -23,15 +23,19 @@ clamp-unit-requires c κs = search needs
 clamp-unit-requires-2 : tie.Need-clamp-unit-requires-2
 clamp-unit-requires-2 c κs = search needs
 
+coverage-requires : tie.Need-coverage-requires
+coverage-requires c κs = search needs
+
 returns : tie.Need-returns
 unfolding overlapEstimate
 returns c = rw (
-  c .before .clamp-unit2 .ensures,
-  c .before .before .before .clamp-unit .ensures,
-  c .before .before .before .before .at-least-uniform .ensures,
-  c .before .before .before .before .before .uniform-non-null-match-probability .ensures,
-  c .before .before .before .before .before .before .or-else-float .ensures,
-  c .before .before .before .before .before .before .before .uniform-pair-selectivity .ensures,
+  c .coverage .ensures,
+  c .before .before .clamp-unit2 .ensures,
+  c .before .before .before .before .clamp-unit .ensures,
+  c .before .before .before .before .before .at-least-uniform .ensures,
+  c .before .before .before .before .before .before .uniform-non-null-match-probability .ensures,
+  c .before .before .before .before .before .before .before .or-else-float .ensures,
+  c .before .before .before .before .before .before .before .before .uniform-pair-selectivity .ensures,
 ) refl
 
 pub overlap-estimate-spec : {M : Type 1} → statement M
@@ -44,4 +48,5 @@ overlap-estimate-spec =
     at-least-uniform-requires
     clamp-unit-requires
     clamp-unit-requires-2
+    coverage-requires
     returns)

@@ -14,6 +14,9 @@ cast-estimate-at c = search needs
 add-estimate-at : tie.Need-add-estimate-at
 add-estimate-at c = search needs
 
+add-estimate-at-2 : tie.Need-add-estimate-at-2
+add-estimate-at-2 c = search needs
+
 estimate-at-requires : tie.Need-estimate-at-requires
 estimate-at-requires c κs = search needs
 
@@ -23,4 +26,4 @@ returns c = c .estimate-at .ensures ∙ ap (estimateAt (c .before .before .befor
 
 pub right-rows-estimate-spec : {M : Type 1} → statement M
 right-rows-estimate-spec =
-    tie.close (tie.spec cast-estimate-at add-estimate-at estimate-at-requires returns)
+    tie.close (tie.spec cast-estimate-at add-estimate-at add-estimate-at-2 estimate-at-requires returns)

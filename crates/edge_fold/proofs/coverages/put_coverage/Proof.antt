@@ -6,6 +6,7 @@ use native.Mathlib.Omega.{arith}
 use borrow.Author.Needs.{needs}
 use Rattle.le.specs.Fields.{onto, fieldBytes}
 use Rattle.le.proofs.OntoLaws.{onto-part}
+use Rattle.layout.specs.Places.{coverageFiguresOffset, coverageOrdinaryOffset}
 use Rattle.edge_fold.proofs.CoverageLaws.{front-length, coverage-joined}
 use Rattle.edge_fold.proofs.coverages.put_coverage.Statement.{statement}
 use Rattle.edge_fold.proofs.coverages.put_coverage.Tie as tie
@@ -50,8 +51,8 @@ returns c =
     let p2 = p3 .before .before .before .before .before in
     let p1 = p2 .before .before .before .before in
     let a = p1 .before .before .before .args in
-    let x2 = onto-part _ _ _ _ _ 2 _ refl refl (omega arith) (p1 .put-u16 .ensures) (p2 .put-coverage-figures .ensures) in
-    onto-part _ _ _ _ _ 42 _ (front-length (a .c)) refl (omega arith) x2 (p3 .put-byte .ensures)
+    let x2 = onto-part _ _ _ _ _ coverageFiguresOffset _ refl refl (omega arith) (p1 .put-u16 .ensures) (p2 .put-coverage-figures .ensures) in
+    onto-part _ _ _ _ _ coverageOrdinaryOffset _ (front-length (a .c)) refl (omega arith) x2 (p3 .put-byte .ensures)
     ∙ ap (λ (bs : List ℕ). onto bs (a .out .now)) (coverage-joined (a .c) _ (p3 .before .one-if .ensures))
 
 pub put-coverage-spec : {M : Type 1} → statement M

@@ -13,8 +13,8 @@ max-by-value-requires c κs = search needs
 returns : tie.Need-returns
 unfolding equalityEdge
 returns c = λ i. record {
-  left = c .before .before .before .args .left;
-  right = c .before .before .before .args .right;
+  left = c .before .before .before .args .pair .left;
+  right = c .before .before .before .args .pair .right;
   «null_safe» = c .before .edge-null-safe .ensures i;
   «chosen_ndv» = c .max-by-value .ensures i;
   «left_ndv» = c .before .before .before .args .left-ndv;

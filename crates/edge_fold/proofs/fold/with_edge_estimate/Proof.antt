@@ -15,7 +15,7 @@ same-length c = search needs
 returns : tie.Need-returns
 returns c =
     let a = c .before .before .append-unless .ensures in
-    ((λ k. record { figures = c .before .before .before .before .with-estimate .ensures k; coverages = a .0 k }), a)
+    ((λ k. record { figures = c .before .before .before .before .with-estimate .ensures k; coverages = a .0 k }), a .1)
 
 pub with-edge-estimate-spec : {M : Type 1} → statement M
 with-edge-estimate-spec =

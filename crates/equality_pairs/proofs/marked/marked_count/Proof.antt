@@ -2,19 +2,23 @@
 use Prim.Native.Nat.{_≤_, _-_}
 use native.Mathlib.Omega.{arith}
 use borrow.Author.Needs.{needs}
+use Rattle.layout.specs.Places.{columnLimit}
 use Rattle.equality_pairs.specs.NonNull.{isMarked, markedColumns}
 use Rattle.equality_pairs.proofs.MarkedLaws.{CountRest, count-first, count-next, count-end, bit-small}
 use Rattle.equality_pairs.proofs.marked.marked_count.Statement.{statement}
 use Rattle.equality_pairs.proofs.marked.marked_count.Tie as tie
 
 abbrev Inv-loop : tie.InvT-loop
-Inv-loop marks n₀ i₀ n i = (n ≤ i) × (i ≤ 128) × CountRest (isMarked marks) 128 n i
+Inv-loop marks n₀ i₀ n i = (n ≤ i) × (i ≤ columnLimit) × CountRest (isMarked marks) columnLimit n i
 
 abbrev μ-loop : tie.MeasureT-loop
-μ-loop marks n₀ i₀ n i = 128 - i
+μ-loop marks n₀ i₀ n i = columnLimit - i
 
 loop-holds : tie.Need-loop-holds Inv-loop μ-loop
 loop-holds c = (omega arith, omega arith, count-first _ _)
+
+cast-loop : tie.Need-cast-loop Inv-loop μ-loop
+cast-loop c = omega arith
 
 is-marked-requires : tie.Need-is-marked-requires Inv-loop μ-loop
 is-marked-requires c κs = search needs
@@ -37,11 +41,11 @@ loop-less c = omega arith
 loop-again : tie.Need-loop-again Inv-loop μ-loop
 loop-again c = let l = c .before .before .before .loop in
     let b = bit-small _ (c .before .is-marked .result) (c .one-if .ensures) in
-    (omega arith, omega arith, count-next (isMarked (c .before .before .before .before .before .args .marks .now)) 128 (l .n) (l .i) _ (c .before .is-marked .result) (c .before .before .loop-test .taken) (c .before .is-marked .ensures) (c .one-if .ensures) (l .inv .2))
+    (omega arith, omega arith, count-next (isMarked (c .before .before .before .before .before .args .marks .now)) columnLimit (l .n) (l .i) _ (c .before .is-marked .result) (c .before .before .loop-test .taken) (c .before .is-marked .ensures) (c .one-if .ensures) (l .inv .2))
 
 returns : tie.Need-returns Inv-loop μ-loop
 unfolding markedColumns
-returns c = count-end (isMarked (c .before .before .before .args .marks .now)) 128 _ _ (c .loop-test .left) (c .before .loop .inv .2)
+returns c = count-end (isMarked (c .before .before .before .args .marks .now)) columnLimit _ _ (c .loop-test .left) (c .before .loop .inv .2)
 
 pub marked-count-spec : {M : Type 1} → statement M
 marked-count-spec =
@@ -50,6 +54,7 @@ marked-count-spec =
     Inv-loop
     μ-loop
     loop-holds
+    cast-loop
     is-marked-requires
     one-if-requires
     cast-n

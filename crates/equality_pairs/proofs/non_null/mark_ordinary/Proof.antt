@@ -1,33 +1,32 @@
 -- Each turn marks the columns of one pair, unless its equality is null-safe. Assumes nothing.
-use Prim.Native.Nat.{_-_}
-use mathlib.Core.Path.{_≡_, refl, ap, _∙_}
+use Prim.Native.Nat.{_≤_, _-_}
+use mathlib.Core.Path.{_≡_, refl, sym, ap, _∙_}
 use native.Mathlib.Omega.{arith}
 use borrow.Author.Needs.{needs}
-use lib.ListN.{length}
-use Rattle.equality_pairs.specs.NonNull.{withOrdinary}
+use lib.ListN.{length, length-map}
+use Rattle.layout.specs.Places.{conjunctLimit}
 use Rattle.equality_pairs.specs.Pairs.{pairsIn}
+use Rattle.equality_pairs.specs.NonNull.{withOrdinary}
+use Rattle.equality_pairs.proofs.PairLaws.{pair-read}
 use Rattle.equality_pairs.proofs.NonNullLaws.{restFrom, rest-first, ordinary-next, ordinary-end}
 use Rattle.equality_pairs.proofs.non_null.mark_ordinary.Statement.{statement}
 use Rattle.equality_pairs.proofs.non_null.mark_ordinary.Tie as tie
 
 abbrev Inv-loop : tie.InvT-loop
-Inv-loop marks₀ lefts rights null-safes n i₀ marks i = (length marks ≡ length marks₀) × (withOrdinary marks (restFrom lefts rights null-safes i n) ≡ withOrdinary marks₀ (pairsIn lefts rights null-safes n))
+Inv-loop marks₀ n held i₀ marks i = (n ≤ conjunctLimit) × (length held ≡ conjunctLimit) × (length marks ≡ length marks₀) × (withOrdinary marks (restFrom (record { pairs = held; count = n }) i) ≡ withOrdinary marks₀ (pairsIn (record { pairs = held; count = n })))
 
 abbrev μ-loop : tie.MeasureT-loop
-μ-loop marks₀ lefts rights null-safes n i₀ marks i = n - i
+μ-loop marks₀ n held i₀ marks i = n - i
 
 loop-holds : tie.Need-loop-holds Inv-loop μ-loop
-loop-holds c = let a = c .before .before .before .before .args in
-    (refl, ap (withOrdinary (a .marks .now)) (rest-first (a .lefts .now) (a .rights .now) (a .null-safes .now) (a .n)))
+loop-holds c = let a = c .before .before .args in
+    (c .before .before .pre, sym (length-map (a .pairs .pairs) _) ∙ c .before .before .good .1 .0 .1 .1 .0 .1 .0 .1, refl, ap (withOrdinary (a .marks .now)) (rest-first (a .pairs)))
 
-flag-at-requires : tie.Need-flag-at-requires Inv-loop μ-loop
-flag-at-requires c κs = search needs
+mul-mark-unless : tie.Need-mul-mark-unless Inv-loop μ-loop
+mul-mark-unless c = search needs
 
-column-at-requires : tie.Need-column-at-requires Inv-loop μ-loop
-column-at-requires c κs = search needs
-
-column-at-requires-2 : tie.Need-column-at-requires-2 Inv-loop μ-loop
-column-at-requires-2 c κs = search needs
+array-copy-out-mark-unless : tie.Need-array-copy-out-mark-unless Inv-loop μ-loop
+array-copy-out-mark-unless c = search needs
 
 mark-unless-requires : tie.Need-mark-unless-requires Inv-loop μ-loop
 mark-unless-requires c κs = search needs
@@ -39,16 +38,20 @@ loop-less : tie.Need-loop-less Inv-loop μ-loop
 loop-less c = omega arith
 
 loop-again : tie.Need-loop-again Inv-loop μ-loop
-loop-again c = let l = c .before .before .before .before .before .before .before .before .loop in
-    let a = c .before .before .before .before .before .before .before .before .before .before .before .before .before .args in
-    (search needs, ordinary-next (a .lefts .now) (a .rights .now) (a .null-safes .now) (l .marks) _ (l .i) (a .n) (c .before .before .before .before .before .before .before .loop-test .taken) (c .before .before .mark-unless .ensures ∙ rw (c .before .before .before .before .before .flag-at .ensures, c .before .before .before .before .column-at .ensures, c .before .before .before .column-at2 .ensures) refl) ∙ l .inv .1)
+loop-again c = let l = c .before .before .before .before .before .before .loop in
+    let a = c .before .before .before .before .before .before .before .before .before .args in
+    let t = c .before .before .before .before .before .loop-test .taken in
+    let few = l .inv .0 in
+    let size = l .inv .1 in
+    (few, size, search needs, ordinary-next (a .pairs) (l .marks) (l .i) _ _ t (pair-read (a .pairs) (a .pairs .pairs) (l .i) _ refl (omega arith)) (c .before .before .mark-unless .ensures) ∙ l .inv .3)
 
 same-length : tie.Need-same-length Inv-loop μ-loop
 same-length c = search needs
 
 returns : tie.Need-returns Inv-loop μ-loop
-returns c = let a = c .before .before .before .before .before .before .args in
-    ordinary-end (a .lefts .now) (a .rights .now) (a .null-safes .now) _ _ _ (c .loop-test .left) ∙ c .before .loop .inv .1
+returns c = let l = c .before .loop in
+    let a = c .before .before .before .before .args in
+    ordinary-end (a .pairs) (l .marks) (l .i) (c .loop-test .left) ∙ l .inv .3
 
 pub mark-ordinary-spec : {M : Type 1} → statement M
 mark-ordinary-spec =
@@ -57,9 +60,8 @@ mark-ordinary-spec =
     Inv-loop
     μ-loop
     loop-holds
-    flag-at-requires
-    column-at-requires
-    column-at-requires-2
+    mul-mark-unless
+    array-copy-out-mark-unless
     mark-unless-requires
     add-i
     loop-less

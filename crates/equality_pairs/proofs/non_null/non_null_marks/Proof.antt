@@ -1,10 +1,12 @@
 -- The columns of ordinary equalities, then the passes. Assumes nothing.
-use mathlib.Core.List.{List}
-use mathlib.Core.Bool.{Bool}
+use Prim.Native.Nat.{_+_}
 use mathlib.Core.Path.{ap, _∙_}
+use mathlib.Core.Bool.{Bool}
+use mathlib.Core.List.{List}
 use borrow.Author.Needs.{needs}
-use Rattle.equality_pairs.specs.NonNull.{passes, nonNullMarks}
+use Rattle.layout.specs.Places.{columnLimit}
 use Rattle.equality_pairs.specs.Pairs.{pairsIn}
+use Rattle.equality_pairs.specs.NonNull.{passes, nonNullMarks}
 use Rattle.equality_pairs.proofs.non_null.non_null_marks.Statement.{statement}
 use Rattle.equality_pairs.proofs.non_null.non_null_marks.Tie as tie
 
@@ -22,8 +24,7 @@ passes-requires c κs = search needs
 
 returns : tie.Need-returns
 unfolding nonNullMarks
-returns c = let a = c .before .before .before .before .before .before .before .before .before .args in
-    c .before .passes .ensures (a .null-safes .now) ∙ ap (λ (m : List Bool). passes 129 m (pairsIn (a .lefts .now) (a .rights .now) (a .null-safes .now) (a .n))) (c .before .before .before .before .mark-ordinary .ensures)
+returns c = c .before .passes .ensures ∙ ap (λ (m : List Bool). passes (columnLimit + 1) m (pairsIn (c .before .before .before .before .before .before .args .pairs))) (c .before .before .before .before .mark-ordinary .ensures)
 
 pub non-null-marks-spec : {M : Type 1} → statement M
 non-null-marks-spec =

@@ -31,8 +31,8 @@ add-u16-at c = search needs
 u16-at-requires : tie.Need-u16-at-requires
 u16-at-requires c κs = search needs
 
-cast-first-field-refusal : tie.Need-cast-first-field-refusal
-cast-first-field-refusal c = search needs
+cast-a : tie.Need-cast-a
+cast-a c = search needs
 
 first-field-refusal-requires : tie.Need-first-field-refusal-requires
 first-field-refusal-requires c κs = search needs
@@ -43,8 +43,8 @@ add-u16-at-2 c = search needs
 u16-at-requires-2 : tie.Need-u16-at-requires-2
 u16-at-requires-2 c κs = search needs
 
-cast-second-field-refusal : tie.Need-cast-second-field-refusal
-cast-second-field-refusal c = search needs
+cast-b : tie.Need-cast-b
+cast-b c = search needs
 
 second-field-refusal-requires : tie.Need-second-field-refusal-requires
 second-field-refusal-requires c κs = search needs
@@ -108,11 +108,11 @@ expression-refusal-spec =
     ask-requires-2
     add-u16-at
     u16-at-requires
-    cast-first-field-refusal
+    cast-a
     first-field-refusal-requires
     add-u16-at-2
     u16-at-requires-2
-    cast-second-field-refusal
+    cast-b
     second-field-refusal-requires
     add-literal-refusal
     literal-refusal-requires

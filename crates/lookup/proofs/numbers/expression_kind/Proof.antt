@@ -4,7 +4,6 @@ use borrow.Author.Tests.{lt-ltb, le-ltb}
 use borrow.Author.Needs.{needs}
 use Rattle.lookup.proofs.numbers.expression_kind.Statement.{statement}
 use Rattle.lookup.proofs.numbers.expression_kind.Tie as tie
-use Rattle.lookup.proofs.numbers.expression_kind.Reads as reads
 
 cast-u16-at : tie.Need-cast-u16-at
 cast-u16-at c = search needs

@@ -6,7 +6,6 @@ use mathlib.Core.Path.{refl, sym, _∙_}
 use borrow.Author.Needs.{needs}
 use Rattle.parts.proofs.equalities.column_equality.Statement.{statement}
 use Rattle.parts.proofs.equalities.column_equality.Tie as tie
-use Rattle.parts.proofs.equalities.column_equality.Reads as reads
 
 expression-kind-requires : tie.Need-expression-kind-requires
 expression-kind-requires c κs = search needs

@@ -1,4 +1,6 @@
 -- The setting stands first. Assumes nothing.
+use mathlib.Core.Path.{refl}
+use native.Mathlib.Nat.{add-zero}
 use Rattle.records.specs.Settings.{settingsAt}
 use Rattle.sheet.specs.Order.{recordAt}
 use Rattle.sheet.specs.Sheet.{sheetOf}
@@ -12,12 +14,15 @@ cast-f64-at c = search needs
 add-f64-at : tie.Need-add-f64-at
 add-f64-at c = search needs
 
+add-f64-at-2 : tie.Need-add-f64-at-2
+add-f64-at-2 c = search needs
+
 f64-at-requires : tie.Need-f64-at-requires
 f64-at-requires c κs = search needs
 
 returns : tie.Need-returns
 unfolding sheetOf recordAt settingsAt
-returns c = c .f64-at .ensures
+returns c = rw (c .f64-at .ensures, add-zero _) refl
 
 pub like-selectivity-spec : {M : Type 1} → statement M
-like-selectivity-spec = tie.close (tie.spec cast-f64-at add-f64-at f64-at-requires returns)
+like-selectivity-spec = tie.close (tie.spec cast-f64-at add-f64-at add-f64-at-2 f64-at-requires returns)

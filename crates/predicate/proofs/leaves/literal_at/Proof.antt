@@ -3,7 +3,6 @@ use mathlib.Core.Path.{refl}
 use borrow.Author.Needs.{needs}
 use Rattle.predicate.proofs.leaves.literal_at.Statement.{statement}
 use Rattle.predicate.proofs.leaves.literal_at.Tie as tie
-use Rattle.predicate.proofs.leaves.literal_at.Reads as reads
 
 add-scalar-at : tie.Need-add-scalar-at
 add-scalar-at c = search needs

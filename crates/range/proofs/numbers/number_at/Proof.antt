@@ -8,7 +8,6 @@ use mir.Syntax.{w32, w64}
 use borrow.Author.Needs.{needs}
 use Rattle.range.proofs.numbers.number_at.Statement.{statement}
 use Rattle.range.proofs.numbers.number_at.Tie as tie
-use Rattle.range.proofs.numbers.number_at.Reads as reads
 
 byte-at-requires : tie.Need-byte-at-requires
 byte-at-requires c κs = search needs
@@ -52,6 +51,9 @@ some-requires-3 c κs = search needs
 add-i64-at-2 : tie.Need-add-i64-at-2
 add-i64-at-2 c = search needs
 
+add-i64-at-3 : tie.Need-add-i64-at-3
+add-i64-at-3 c = search needs
+
 i64-at-requires-2 : tie.Need-i64-at-requires-2
 i64-at-requires-2 c κs = search needs
 
@@ -60,6 +62,9 @@ nearest-i64-requires-3 c κs = search needs
 
 add-byte-at : tie.Need-add-byte-at
 add-byte-at c = search needs
+
+add-byte-at-2 : tie.Need-add-byte-at-2
+add-byte-at-2 c = search needs
 
 byte-at-requires-2 : tie.Need-byte-at-requires-2
 byte-at-requires-2 c κs = search needs
@@ -129,9 +134,11 @@ number-at-spec =
     f64-at-requires
     some-requires-3
     add-i64-at-2
+    add-i64-at-3
     i64-at-requires-2
     nearest-i64-requires-3
     add-byte-at
+    add-byte-at-2
     byte-at-requires-2
     power-of-ten-requires
     some-requires-4

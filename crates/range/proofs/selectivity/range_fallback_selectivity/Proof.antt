@@ -1,13 +1,8 @@
 -- The setting stands 16 bytes behind the first one. Assumes nothing.
 use Rattle.records.specs.Settings.{settingsAt}
-use Rattle.sheet.specs.Order.{recordAt}
-use Rattle.sheet.specs.Sheet.{sheetOf}
 use borrow.Author.Needs.{needs}
 use Rattle.range.proofs.selectivity.range_fallback_selectivity.Statement.{statement}
 use Rattle.range.proofs.selectivity.range_fallback_selectivity.Tie as tie
-
-cast-f64-at : tie.Need-cast-f64-at
-cast-f64-at c = search needs
 
 add-f64-at : tie.Need-add-f64-at
 add-f64-at c = search needs
@@ -19,9 +14,9 @@ f64-at-requires : tie.Need-f64-at-requires
 f64-at-requires c κs = search needs
 
 returns : tie.Need-returns
-unfolding sheetOf recordAt settingsAt
+unfolding settingsAt
 returns c = c .f64-at .ensures
 
 pub range-fallback-selectivity-spec : {M : Type 1} → statement M
 range-fallback-selectivity-spec =
-    tie.close (tie.spec cast-f64-at add-f64-at add-f64-at-2 f64-at-requires returns)
+    tie.close (tie.spec add-f64-at add-f64-at-2 f64-at-requires returns)

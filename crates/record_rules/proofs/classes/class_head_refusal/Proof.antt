@@ -10,6 +10,12 @@ whole-requires c κs = search needs
 u16-at-requires : tie.Need-u16-at-requires
 u16-at-requires c κs = search needs
 
+cast-both : tie.Need-cast-both
+cast-both c = search needs
+
+cast-both-2 : tie.Need-cast-both-2
+cast-both-2 c = search needs
+
 both-requires : tie.Need-both-requires
 both-requires c κs = search needs
 
@@ -38,6 +44,8 @@ class-head-refusal-spec =
     (tie.spec
     whole-requires
     u16-at-requires
+    cast-both
+    cast-both-2
     both-requires
     ask-requires
     add-estimate-refusal

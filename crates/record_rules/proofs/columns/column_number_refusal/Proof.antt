@@ -9,6 +9,9 @@ ascending-requires c κs = search needs
 u16-at-requires : tie.Need-u16-at-requires
 u16-at-requires c κs = search needs
 
+cast-both : tie.Need-cast-both
+cast-both c = search needs
+
 both-requires : tie.Need-both-requires
 both-requires c κs = search needs
 
@@ -21,4 +24,4 @@ returns c = cc
 
 pub column-number-refusal-spec : {M : Type 1} → statement M
 column-number-refusal-spec =
-    tie.close (tie.spec ascending-requires u16-at-requires both-requires ask-requires returns)
+    tie.close (tie.spec ascending-requires u16-at-requires cast-both both-requires ask-requires returns)

@@ -17,11 +17,17 @@ add-base-refusal c = search needs
 base-refusal-requires : tie.Need-base-refusal-requires
 base-refusal-requires c κs = search needs
 
-add-bounds-refusal : tie.Need-add-bounds-refusal
-add-bounds-refusal c = search needs
+add-scalar-refusal : tie.Need-add-scalar-refusal
+add-scalar-refusal c = search needs
 
-bounds-refusal-requires : tie.Need-bounds-refusal-requires
-bounds-refusal-requires c κs = search needs
+scalar-refusal-requires : tie.Need-scalar-refusal-requires
+scalar-refusal-requires c κs = search needs
+
+add-scalar-refusal-2 : tie.Need-add-scalar-refusal-2
+add-scalar-refusal-2 c = search needs
+
+scalar-refusal-requires-2 : tie.Need-scalar-refusal-requires-2
+scalar-refusal-requires-2 c κs = search needs
 
 add-estimate-refusal : tie.Need-add-estimate-refusal
 add-estimate-refusal c = search needs
@@ -62,19 +68,25 @@ or-else-requires-5 c κs = search needs
 or-else-requires-6 : tie.Need-or-else-requires-6
 or-else-requires-6 c κs = search needs
 
+or-else-requires-7 : tie.Need-or-else-requires-7
+or-else-requires-7 c κs = search needs
+
 returns : tie.Need-returns
 unfolding columnRefusal
 returns c =
-    let d = c .before .before .before .before .before .before in
+    let a = c .before .before .before .before in
+    let d = a .before .before .before in
     let e = d .before .before in
     let f = e .before .before in
-    let sketch = d .sketch-number-refusal .ensures ∙ ap (sketchNumberRefusal (f .before .before .before .before .before .args .sketches)) (d .before .u16-at .ensures) in
-    let last = c .before .before .before .before .before .or-else .ensures ∙ λ i. orElse (e .estimate-refusal2 .ensures i) (sketch i) in
-    let figures = c .before .before .before .before .or-else2 .ensures ∙ λ i. orElse (e .before .estimate-refusal .ensures i) (last i) in
-    let bounds = c .before .before .before .or-else3 .ensures ∙ λ i. orElse (f .bounds-refusal .ensures i) (figures i) in
-    let base = c .before .before .or-else4 .ensures ∙ λ i. orElse (f .before .base-refusal .ensures i) (bounds i) in
-    let column = c .before .or-else5 .ensures ∙ λ i. orElse (f .before .before .column-number-refusal .ensures i) (base i) in
-    c .or-else6 .ensures ∙ λ i. orElse (f .before .before .before .whole .ensures i) (column i)
+    let g = f .before .before in
+    let sketch = d .sketch-number-refusal .ensures ∙ ap (sketchNumberRefusal (g .before .before .before .before .args .sketches)) (d .before .u16-at .ensures) in
+    let distinct = a .before .before .or-else .ensures ∙ λ i. orElse (e .estimate-refusal2 .ensures i) (sketch i) in
+    let frequency = a .before .or-else2 .ensures ∙ λ i. orElse (e .before .estimate-refusal .ensures i) (distinct i) in
+    let upper = a .or-else3 .ensures ∙ λ i. orElse (f .scalar-refusal2 .ensures i) (frequency i) in
+    let lower = c .before .before .before .or-else4 .ensures ∙ λ i. orElse (f .before .scalar-refusal .ensures i) (upper i) in
+    let base = c .before .before .or-else5 .ensures ∙ λ i. orElse (g .base-refusal .ensures i) (lower i) in
+    let column = c .before .or-else6 .ensures ∙ λ i. orElse (g .before .column-number-refusal .ensures i) (base i) in
+    c .or-else7 .ensures ∙ λ i. orElse (g .before .before .whole .ensures i) (column i)
 
 pub column-refusal-spec : {M : Type 1} → statement M
 column-refusal-spec =
@@ -84,8 +96,10 @@ column-refusal-spec =
     column-number-refusal-requires
     add-base-refusal
     base-refusal-requires
-    add-bounds-refusal
-    bounds-refusal-requires
+    add-scalar-refusal
+    scalar-refusal-requires
+    add-scalar-refusal-2
+    scalar-refusal-requires-2
     add-estimate-refusal
     estimate-refusal-requires
     add-estimate-refusal-2
@@ -99,4 +113,5 @@ column-refusal-spec =
     or-else-requires-4
     or-else-requires-5
     or-else-requires-6
+    or-else-requires-7
     returns)

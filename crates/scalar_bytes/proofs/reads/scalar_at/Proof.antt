@@ -37,6 +37,9 @@ f64-at-requires c κs = search needs
 add-i64-at-2 : tie.Need-add-i64-at-2
 add-i64-at-2 c = search needs
 
+add-i64-at-3 : tie.Need-add-i64-at-3
+add-i64-at-3 c = search needs
+
 i64-at-requires-2 : tie.Need-i64-at-requires-2
 i64-at-requires-2 c κs = search needs
 
@@ -48,6 +51,9 @@ byte-at-requires-3 c κs = search needs
 
 add-byte-at-3 : tie.Need-add-byte-at-3
 add-byte-at-3 c = search needs
+
+add-byte-at-4 : tie.Need-add-byte-at-4
+add-byte-at-4 c = search needs
 
 byte-at-requires-4 : tie.Need-byte-at-requires-4
 byte-at-requires-4 c κs = search needs
@@ -67,23 +73,32 @@ i32-at-requires-3 c κs = search needs
 add-i32-at-4 : tie.Need-add-i32-at-4
 add-i32-at-4 c = search needs
 
+add-i32-at-5 : tie.Need-add-i32-at-5
+add-i32-at-5 c = search needs
+
 i32-at-requires-4 : tie.Need-i32-at-requires-4
 i32-at-requires-4 c κs = search needs
 
-add-i64-at-3 : tie.Need-add-i64-at-3
-add-i64-at-3 c = search needs
+add-i64-at-4 : tie.Need-add-i64-at-4
+add-i64-at-4 c = search needs
+
+add-i64-at-5 : tie.Need-add-i64-at-5
+add-i64-at-5 c = search needs
 
 i64-at-requires-3 : tie.Need-i64-at-requires-3
 i64-at-requires-3 c κs = search needs
 
-add-i32-at-5 : tie.Need-add-i32-at-5
-add-i32-at-5 c = search needs
+add-i32-at-6 : tie.Need-add-i32-at-6
+add-i32-at-6 c = search needs
 
 i32-at-requires-5 : tie.Need-i32-at-requires-5
 i32-at-requires-5 c κs = search needs
 
-add-i32-at-6 : tie.Need-add-i32-at-6
-add-i32-at-6 c = search needs
+add-i32-at-7 : tie.Need-add-i32-at-7
+add-i32-at-7 c = search needs
+
+add-i32-at-8 : tie.Need-add-i32-at-8
+add-i32-at-8 c = search needs
 
 i32-at-requires-6 : tie.Need-i32-at-requires-6
 i32-at-requires-6 c κs = search needs
@@ -138,22 +153,27 @@ scalar-at-spec =
     add-f64-at
     f64-at-requires
     add-i64-at-2
+    add-i64-at-3
     i64-at-requires-2
     add-byte-at-2
     byte-at-requires-3
     add-byte-at-3
+    add-byte-at-4
     byte-at-requires-4
     add-i32-at-2
     i32-at-requires-2
     add-i32-at-3
     i32-at-requires-3
     add-i32-at-4
-    i32-at-requires-4
-    add-i64-at-3
-    i64-at-requires-3
     add-i32-at-5
-    i32-at-requires-5
+    i32-at-requires-4
+    add-i64-at-4
+    add-i64-at-5
+    i64-at-requires-3
     add-i32-at-6
+    i32-at-requires-5
+    add-i32-at-7
+    add-i32-at-8
     i32-at-requires-6
     returns
     returns-2

@@ -16,8 +16,11 @@ count-within-requires c κs = search needs
 ask-requires : tie.Need-ask-requires
 ask-requires c κs = search needs
 
-fill-refusal-requires : tie.Need-fill-refusal-requires
-fill-refusal-requires c κs = search needs
+section-of-requires : tie.Need-section-of-requires
+section-of-requires c κs = search needs
+
+filled-refusal-requires : tie.Need-filled-refusal-requires
+filled-refusal-requires c κs = search needs
 
 or-else-requires : tie.Need-or-else-requires
 or-else-requires c κs = search needs
@@ -27,7 +30,7 @@ or-else-requires-2 c κs = search needs
 
 returns : tie.Need-returns
 unfolding countRefusal
-returns c = rw (c .or-else2 .ensures, c .before .or-else .ensures, c .before .before .fill-refusal .ensures, c .before .before .before .ask .ensures, c .before .before .before .before .count-within .ensures, c .before .before .before .before .before .u16-at .ensures, c .before .before .before .before .before .before .whole .ensures) refl
+returns c = rw (c .or-else2 .ensures, c .before .or-else .ensures, c .before .before .filled-refusal .ensures, c .before .before .before .section-of .ensures, c .before .before .before .before .ask .ensures, c .before .before .before .before .before .count-within .ensures, c .before .before .before .before .before .before .u16-at .ensures, c .before .before .before .before .before .before .before .whole .ensures) refl
 
 pub count-refusal-spec : {M : Type 1} → statement M
 count-refusal-spec =
@@ -37,7 +40,8 @@ count-refusal-spec =
     u16-at-requires
     count-within-requires
     ask-requires
-    fill-refusal-requires
+    section-of-requires
+    filled-refusal-requires
     or-else-requires
     or-else-requires-2
     returns)

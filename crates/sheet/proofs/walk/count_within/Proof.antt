@@ -4,97 +4,15 @@ use borrow.Author.Needs.{needs}
 use Rattle.sheet.proofs.walk.count_within.Statement.{statement}
 use Rattle.sheet.proofs.walk.count_within.Tie as tie
 
-enum-told : tie.Need-enum-told
-enum-told c = search needs
+section-of-requires : tie.Need-section-of-requires
+section-of-requires c κs = search needs
 
-enum-told-2 : tie.Need-enum-told-2
-enum-told-2 c = search needs
-
-enum-told-3 : tie.Need-enum-told-3
-enum-told-3 c = search needs
-
-enum-told-4 : tie.Need-enum-told-4
-enum-told-4 c = search needs
-
-enum-told-5 : tie.Need-enum-told-5
-enum-told-5 c = search needs
-
-enum-told-6 : tie.Need-enum-told-6
-enum-told-6 c = search needs
-
-enum-told-7 : tie.Need-enum-told-7
-enum-told-7 c = search needs
-
-enum-told-8 : tie.Need-enum-told-8
-enum-told-8 c = search needs
-
-enum-told-9 : tie.Need-enum-told-9
-enum-told-9 c = search needs
-
-enum-told-10 : tie.Need-enum-told-10
-enum-told-10 c = search needs
+both-requires : tie.Need-both-requires
+both-requires c κs = search needs
 
 returns : tie.Need-returns
 unfolding countWithin
-returns c = rw (c .enum-told .given .1) refl
-
-returns-2 : tie.Need-returns-2
-unfolding countWithin
-returns-2 c = rw (c .enum-told2 .given .1) refl
-
-returns-3 : tie.Need-returns-3
-unfolding countWithin
-returns-3 c = rw (c .enum-told3 .given .1) refl
-
-returns-4 : tie.Need-returns-4
-unfolding countWithin
-returns-4 c = rw (c .enum-told4 .given .1) refl
-
-returns-5 : tie.Need-returns-5
-unfolding countWithin
-returns-5 c = rw (c .enum-told5 .given .1) refl
-
-returns-6 : tie.Need-returns-6
-unfolding countWithin
-returns-6 c = rw (c .enum-told6 .given .1) refl
-
-returns-7 : tie.Need-returns-7
-unfolding countWithin
-returns-7 c = rw (c .enum-told7 .given .1) refl
-
-returns-8 : tie.Need-returns-8
-unfolding countWithin
-returns-8 c = rw (c .enum-told8 .given .1) refl
-
-returns-9 : tie.Need-returns-9
-unfolding countWithin
-returns-9 c = rw (c .enum-told9 .given .1) refl
-
-returns-10 : tie.Need-returns-10
-unfolding countWithin
-returns-10 c = rw (c .enum-told10 .given .1) refl
+returns c = rw (c .both .ensures, c .before .before .before .section-of .ensures) refl
 
 pub count-within-spec : {M : Type 1} → statement M
-count-within-spec =
-    tie.close
-    (tie.spec
-    enum-told
-    enum-told-2
-    enum-told-3
-    enum-told-4
-    enum-told-5
-    enum-told-6
-    enum-told-7
-    enum-told-8
-    enum-told-9
-    enum-told-10
-    returns
-    returns-2
-    returns-3
-    returns-4
-    returns-5
-    returns-6
-    returns-7
-    returns-8
-    returns-9
-    returns-10)
+count-within-spec = tie.close (tie.spec section-of-requires both-requires returns)

@@ -1,6 +1,5 @@
-use Rattle.sheet.proofs.WalkLaws.{sketches-tally, expressions-tally, operands-owner, operands-within}
+use Rattle.sheet.proofs.WalkLaws.{sketches-tally, expressions-tally, operands-next, owned}
 use Rattle.sheet.specs.Rules.{recordRefusal}
-use native.Mathlib.Omega.{arith}
 use mathlib.Core.Path.{refl}
 use borrow.Author.Needs.{needs}
 use Rattle.sheet.proofs.walk.record_refusal.Statement.{statement}
@@ -60,9 +59,6 @@ expression-refusal-requires c κs = search needs
 enum-told-9 : tie.Need-enum-told-9
 enum-told-9 c = search needs
 
-nary-from-requires : tie.Need-nary-from-requires
-nary-from-requires c κs = (omega arith, operands-within _ _ _ _ _ _ (c .before .before .before .pre .1 .1) (c .enum-told9 .given .1))
-
 add-operand-refusal : tie.Need-add-operand-refusal
 add-operand-refusal c = search needs
 
@@ -85,7 +81,7 @@ returns-2 c = rw (c .setting-refusal .ensures, c .before .enum-told2 .given .1) 
 
 returns-3 : tie.Need-returns-3
 unfolding recordRefusal
-returns-3 c = rw (c .sketch-refusal .ensures, sketches-tally _ _ _ _ _ _ (c .before .before .before .before .pre .1 .1) (c .before .enum-told3 .given .1), c .before .enum-told3 .given .1) refl
+returns-3 c = rw (c .sketch-refusal .ensures, sketches-tally _ _ _ _ _ _ (c .before .before .before .before .pre .1 .0 .1) (c .before .enum-told3 .given .1), c .before .enum-told3 .given .1) refl
 
 returns-4 : tie.Need-returns-4
 unfolding recordRefusal
@@ -105,11 +101,13 @@ returns-7 c = rw (c .class-refusal .ensures, c .before .enum-told7 .given .1) re
 
 returns-8 : tie.Need-returns-8
 unfolding recordRefusal
-returns-8 c = rw (c .expression-refusal .ensures, expressions-tally _ _ _ _ _ _ (c .before .before .before .before .pre .1 .1) (c .before .enum-told8 .given .1), c .before .enum-told8 .given .1) refl
+returns-8 c = rw (c .expression-refusal .ensures, expressions-tally _ _ _ _ _ _ (c .before .before .before .before .pre .1 .0 .1) (c .before .enum-told8 .given .1), c .before .enum-told8 .given .1) refl
 
 returns-9 : tie.Need-returns-9
 unfolding recordRefusal
-returns-9 c = rw (c .operand-refusal .ensures, c .before .nary-from .ensures .0, operands-owner _ _ _ _ _ _ (c .before .before .before .before .before .pre .1 .1) (c .before .before .before .before .before .pre .0 .1) (c .before .before .enum-told9 .given .1), c .before .before .enum-told9 .given .1) refl
+returns-9 c =
+    let h = c .before .before .before .before .pre in
+    rw (c .operand-refusal .ensures, operands-next _ _ _ _ _ _ (h .1 .0 .1) (h .0 .1) (owned (c .before .enum-told9 .given .1)) _ _ (h .1 .1), c .before .enum-told9 .given .1) refl
 
 returns-10 : tie.Need-returns-10
 unfolding recordRefusal
@@ -137,7 +135,6 @@ record-refusal-spec =
     enum-told-8
     expression-refusal-requires
     enum-told-9
-    nary-from-requires
     add-operand-refusal
     operand-refusal-requires
     enum-told-10

@@ -14,8 +14,8 @@ judge-store-requires c κs = search needs
 judge-refused-requires : tie.Need-judge-refused-requires
 judge-refused-requires c κs = search needs
 
-judge-accepted-requires : tie.Need-judge-accepted-requires
-judge-accepted-requires c κs = search needs
+judge-answer-requires : tie.Need-judge-answer-requires
+judge-answer-requires c κs = search needs
 
 judge-prefixes-requires : tie.Need-judge-prefixes-requires
 judge-prefixes-requires c κs = search needs
@@ -23,14 +23,14 @@ judge-prefixes-requires c κs = search needs
 judge-store-requires-2 : tie.Need-judge-store-requires-2
 judge-store-requires-2 c κs = search needs
 
-judge-answer-requires : tie.Need-judge-answer-requires
-judge-answer-requires c κs = search needs
-
 judge-answer-requires-2 : tie.Need-judge-answer-requires-2
 judge-answer-requires-2 c κs = search needs
 
 judge-answer-requires-3 : tie.Need-judge-answer-requires-3
 judge-answer-requires-3 c κs = search needs
+
+judge-answer-requires-4 : tie.Need-judge-answer-requires-4
+judge-answer-requires-4 c κs = search needs
 
 unknown-requires : tie.Need-unknown-requires
 unknown-requires c κs = search needs
@@ -45,7 +45,7 @@ returns-2 c = rw (← c .before .before .byte-at .ensures, c .before .match .key
 
 returns-3 : tie.Need-returns-3
 unfolding judge
-returns-3 c = rw (← c .before .before .byte-at .ensures, c .before .match .keys3) (c .judge-accepted .ensures)
+returns-3 c = rw (← c .before .before .byte-at .ensures, c .before .match .keys3) (c .judge-answer .ensures)
 
 returns-4 : tie.Need-returns-4
 unfolding judge
@@ -57,15 +57,15 @@ returns-5 c = rw (← c .before .before .byte-at .ensures, c .before .match .key
 
 returns-6 : tie.Need-returns-6
 unfolding judge
-returns-6 c = rw (← c .before .before .byte-at .ensures, c .before .match .keys6) (c .judge-answer .ensures)
+returns-6 c = rw (← c .before .before .byte-at .ensures, c .before .match .keys6) (c .judge-answer2 .ensures)
 
 returns-7 : tie.Need-returns-7
 unfolding judge
-returns-7 c = rw (← c .before .before .byte-at .ensures, c .before .match .keys7) (c .judge-answer2 .ensures)
+returns-7 c = rw (← c .before .before .byte-at .ensures, c .before .match .keys7) (c .judge-answer3 .ensures)
 
 returns-8 : tie.Need-returns-8
 unfolding judge
-returns-8 c = rw (← c .before .before .byte-at .ensures, c .before .match .keys8) (c .judge-answer3 .ensures)
+returns-8 c = rw (← c .before .before .byte-at .ensures, c .before .match .keys8) (c .judge-answer4 .ensures)
 
 returns-9 : tie.Need-returns-9
 unfolding judge
@@ -80,12 +80,12 @@ judge-spec =
     byte-at-requires
     judge-store-requires
     judge-refused-requires
-    judge-accepted-requires
+    judge-answer-requires
     judge-prefixes-requires
     judge-store-requires-2
-    judge-answer-requires
     judge-answer-requires-2
     judge-answer-requires-3
+    judge-answer-requires-4
     unknown-requires
     returns
     returns-2

@@ -16,20 +16,20 @@ store-fits-requires c κs = search needs
 u32-at-requires : tie.Need-u32-at-requires
 u32-at-requires c κs = search needs
 
-cast-copy : tie.Need-cast-copy
-cast-copy c = search needs
+cast-at : tie.Need-cast-at
+cast-at c = search needs
 
 u16-at-requires : tie.Need-u16-at-requires
 u16-at-requires c κs = search needs
 
-cast-copy-2 : tie.Need-cast-copy-2
-cast-copy-2 c = search needs
+cast-n : tie.Need-cast-n
+cast-n c = search needs
 
 copy-requires : tie.Need-copy-requires
 copy-requires c κs =
     let test = c .before .before .before in
     let a = test .before .before .before .before .before .before .before .args in
-    (rw (c .before .u32-at .ensures, c .u16-at .ensures) (fits-room (a .s .now) (a .c .now) (sym (test .before .store-fits .ensures) ∙ test .if2 .taken)), search needs)
+    (rw (c .before .before .u32-at .ensures, c .before .u16-at .ensures) (fits-room (a .s .now) (a .c .now) (sym (test .before .store-fits .ensures) ∙ test .if2 .taken)), search needs)
 
 same-length : tie.Need-same-length
 same-length c = search needs
@@ -40,7 +40,7 @@ returns c =
     let copied = c .before .before in
     let second = copied .before .before .before .before in
     let first = second .before .before .before in
-    rw (← first .before .byte-at .ensures, eq-eqb _ _ (first .if1 .taken), ← second .before .store-fits .ensures, second .if2 .taken, ← copied .before .before .u32-at .ensures, ← copied .before .u16-at .ensures) (copied .copy .ensures)
+    rw (← first .before .byte-at .ensures, eq-eqb _ _ (first .if1 .taken), ← second .before .store-fits .ensures, second .if2 .taken, ← copied .before .before .before .u32-at .ensures, ← copied .before .before .u16-at .ensures) (copied .copy .ensures)
 
 same-length-2 : tie.Need-same-length-2
 same-length-2 c = search needs
@@ -60,9 +60,9 @@ store-spec =
     byte-at-requires
     store-fits-requires
     u32-at-requires
-    cast-copy
+    cast-at
     u16-at-requires
-    cast-copy-2
+    cast-n
     copy-requires
     same-length
     returns

@@ -25,6 +25,9 @@ equal-i32-requires c κs = search needs
 add-i32-there-2 : tie.Need-add-i32-there-2
 add-i32-there-2 c = search needs
 
+add-i32-there-3 : tie.Need-add-i32-there-3
+add-i32-there-3 c = search needs
+
 i32-there-requires-2 : tie.Need-i32-there-requires-2
 i32-there-requires-2 c κs = search needs
 
@@ -53,6 +56,7 @@ has-day-time-spec =
     i32-there-requires
     equal-i32-requires
     add-i32-there-2
+    add-i32-there-3
     i32-there-requires-2
     equal-i32-requires-2
     both-requires

@@ -22,11 +22,17 @@ byte-there-requires-2 c κs = search needs
 add-byte-there-2 : tie.Need-add-byte-there-2
 add-byte-there-2 c = search needs
 
+add-byte-there-3 : tie.Need-add-byte-there-3
+add-byte-there-3 c = search needs
+
 byte-there-requires-3 : tie.Need-byte-there-requires-3
 byte-there-requires-3 c κs = search needs
 
 add-i64-there : tie.Need-add-i64-there
 add-i64-there c = search needs
+
+add-i64-there-2 : tie.Need-add-i64-there-2
+add-i64-there-2 c = search needs
 
 i64-there-requires : tie.Need-i64-there-requires
 i64-there-requires c κs = search needs
@@ -57,8 +63,10 @@ has-decimal128-spec =
     add-byte-there
     byte-there-requires-2
     add-byte-there-2
+    add-byte-there-3
     byte-there-requires-3
     add-i64-there
+    add-i64-there-2
     i64-there-requires
     equal-i64-requires
     both-requires

@@ -25,6 +25,9 @@ equal-i32-requires c κs = search needs
 add-i32-there-2 : tie.Need-add-i32-there-2
 add-i32-there-2 c = search needs
 
+add-i32-there-3 : tie.Need-add-i32-there-3
+add-i32-there-3 c = search needs
+
 i32-there-requires-2 : tie.Need-i32-there-requires-2
 i32-there-requires-2 c κs = search needs
 
@@ -33,6 +36,9 @@ equal-i32-requires-2 c κs = search needs
 
 add-i64-there : tie.Need-add-i64-there
 add-i64-there c = search needs
+
+add-i64-there-2 : tie.Need-add-i64-there-2
+add-i64-there-2 c = search needs
 
 i64-there-requires : tie.Need-i64-there-requires
 i64-there-requires c κs = search needs
@@ -66,9 +72,11 @@ has-month-day-nano-spec =
     i32-there-requires
     equal-i32-requires
     add-i32-there-2
+    add-i32-there-3
     i32-there-requires-2
     equal-i32-requires-2
     add-i64-there
+    add-i64-there-2
     i64-there-requires
     equal-i64-requires
     both-requires

@@ -1,0 +1,3 @@
+pub mod OrderLaws
+pub mod LayoutLaws
+pub mod FloatLaws
