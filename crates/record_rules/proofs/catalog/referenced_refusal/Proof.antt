@@ -1,3 +1,4 @@
+use mathlib.Core.Path.{refl}
 use borrow.Author.Needs.{needs}
 use Rattle.record_rules.proofs.catalog.referenced_refusal.Statement.{statement}
 use Rattle.record_rules.proofs.catalog.referenced_refusal.Tie as tie
@@ -15,7 +16,7 @@ ask-requires : tie.Need-ask-requires
 ask-requires c κs = search needs
 
 returns : tie.Need-returns
-returns c = cc
+returns c = rw (c .ask .ensures, c .before .either .ensures, c .before .before .is-none .ensures, c .before .before .before .u16-at .ensures) refl
 
 pub referenced-refusal-spec : {M : Type 1} → statement M
 referenced-refusal-spec =
