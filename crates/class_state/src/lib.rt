@@ -1,4 +1,6 @@
 // EquivalenceClassState of the source's analysis.rs.
+#![tactic(auto)]
+
 use estimate::Estimate;
 use layout::COLUMN_LIMIT;
 
@@ -10,7 +12,7 @@ pub mod slots;
 pub mod unions;
 
 // Of each column the column at its root, and of each root its class's distinct.
-#[derive(Drop)]
+#[derive(Clone, Copy)]
 pub struct EquivalenceClassState {
     pub roots: [u8; COLUMN_LIMIT],
     pub distincts: [Estimate; COLUMN_LIMIT],

@@ -1,4 +1,6 @@
 // Selectivities of comparisons and of tests for null: what a predicate has at its leaves.
+#![tactic(auto)]
+
 pub mod binary;
 pub mod columns;
 pub mod literal;

@@ -1,4 +1,6 @@
 // Demand 3 of the entry: its definitions stand in specs/Claim.antt and specs/Demand.antt.
+#![tactic(auto)]
+
 ghost use Rattle.std.specs.Prelude.{ℕ, ◌<◌, ◌^◌, ◌≡◌, take};
 ghost use Rattle.answers.specs.Answers.{answered, leaves, answer_number, Comes};
 ghost use Rattle.answers.specs.declared.Answer.TheVariants.{Written};
@@ -8,7 +10,7 @@ ghost use Rattle.demand.specs.Demand.{join_in};
 
 use answers::Answer;
 
-#[derive(Drop)]
+#[derive(Clone, Copy)]
 pub struct TwoAnswers {
     pub first: Answer,
     pub second: Answer,
@@ -25,7 +27,7 @@ pub fn two_joins(a: &[u8], b: &[u8], x: &mut [u8], y: &mut [u8]) -> TwoAnswers
     TwoAnswers { first, second }
 }
 
-#[derive(Drop)]
+#[derive(Clone, Copy)]
 pub struct TwoNumbers {
     pub first: u64,
     pub second: u64,

@@ -1,5 +1,7 @@
 // equality_edge_estimate of the source's analysis.rs: what one equality between columns of a join's
 // two inputs comes to.
+#![tactic(auto)]
+
 ghost use Rattle.std.specs.Prelude.{◌≡◌, true};
 ghost use Rattle.records.specs.Columns.{column_profile_at};
 ghost use Rattle.sheet.specs.Sheet.{sheet_of};
@@ -25,7 +27,7 @@ mod inputs;
 pub mod places;
 
 // The source's EqualityEdge.
-#[derive(Drop)]
+#[derive(Clone, Copy)]
 pub struct EqualityEdge {
     pub left: u16,
     pub right: u16,
@@ -36,7 +38,7 @@ pub struct EqualityEdge {
 }
 
 // What the figures of an equality are made from.
-#[derive(Drop)]
+#[derive(Clone, Copy)]
 pub struct EdgeInputs {
     pub left_column: u16,
     pub null_safe: bool,
@@ -48,7 +50,7 @@ pub struct EdgeInputs {
     pub null_match_probability: f64,
 }
 
-#[derive(Drop)]
+#[derive(Clone, Copy)]
 pub struct LeftEqualityCoverage {
     pub column: u16,
     pub input_distinct: f64,
@@ -59,13 +61,13 @@ pub struct LeftEqualityCoverage {
     pub ordinary_non_null: bool,
 }
 
-#[derive(Drop)]
+#[derive(Clone, Copy)]
 pub enum LeftCoverage {
     Absent,
     Present(LeftEqualityCoverage),
 }
 
-#[derive(Drop)]
+#[derive(Clone, Copy)]
 pub struct EqualityEdgeEstimate {
     pub pair_selectivity: f64,
     pub left_match_probability: f64,

@@ -10,7 +10,7 @@ use rules::both;
 use sheet::Sections;
 
 // The places of the two columns in the inputs' lists, 0 where an input does not have the column.
-#[derive(Drop)]
+#[derive(Clone, Copy)]
 pub struct EdgePlaces {
     pub left_in_left: u32,
     pub left_in_right: u32,

@@ -14,7 +14,7 @@ use layout::COVERAGE_SIZE;
 use sheet::Sections;
 
 // The products over the edges so far, and whether one of them joined the two inputs.
-#[derive(Drop)]
+#[derive(Clone, Copy)]
 pub struct EqualityFigures {
     pub selectivity: f64,
     pub match_probability: f64,
@@ -22,7 +22,7 @@ pub struct EqualityFigures {
 }
 
 // The figures, and how many coverages were written.
-#[derive(Drop)]
+#[derive(Clone, Copy)]
 pub struct EqualityTotals {
     pub figures: EqualityFigures,
     pub coverages: usize,

@@ -1,4 +1,6 @@
 // The order in which a join's edges are taken up: `equality_edges.sort_by` of the source's analysis.rs.
+#![tactic(auto)]
+
 ghost use Rattle.std.specs.Prelude.{◌≡◌, false, ◌&&◌, not, ◌++◌, ◌+◌, ◌-◌, ◌<◌, ◌≤◌, length, get_or, take, drop};
 ghost use Rattle.float.specs.Order.{f64_zero};
 ghost use Rattle.layout.specs.Places.{conjunct_limit};

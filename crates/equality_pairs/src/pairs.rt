@@ -12,7 +12,7 @@ use records::expressions::Expression;
 use sheet::Sections;
 
 // Two columns, and whether their equality is null-safe.
-#[derive(Drop)]
+#[derive(Clone, Copy)]
 pub struct EqualityPair {
     pub left: u16,
     pub right: u16,
@@ -20,7 +20,7 @@ pub struct EqualityPair {
 }
 
 // The first `count` places hold pairs.
-#[derive(Drop)]
+#[derive(Clone, Copy)]
 pub struct EqualityPairs {
     pub pairs: [EqualityPair; CONJUNCT_LIMIT],
     pub count: usize,

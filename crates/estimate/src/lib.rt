@@ -1,5 +1,7 @@
 // The source's Estimate: a value, optional bounds and where it comes from. A bound is a flag and a
 // number, which is +0 where there is none.
+#![tactic(auto)]
+
 ghost use Rattle.std.specs.Prelude.{◌≡◌};
 ghost use Rattle.estimate.specs.Estimates.{estimate_of, lower_bound, upper_bound, raised, lowered, clamp_to_bounds, exact, derived, default, max_by_value, min_by_value};
 
@@ -8,7 +10,7 @@ use float::order::{f64_max, f64_min};
 
 pub mod bytes;
 
-#[derive(Drop)]
+#[derive(Clone, Copy)]
 pub enum EstimateSource {
     Exact,
     Catalog,
@@ -17,7 +19,7 @@ pub enum EstimateSource {
     Default,
 }
 
-#[derive(Drop)]
+#[derive(Clone, Copy)]
 pub struct Estimate {
     pub value: f64,
     pub lower: f64,

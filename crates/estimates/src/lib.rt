@@ -1,4 +1,6 @@
 // The answers for planners, from a sheet's bytes into an output that the caller lends.
+#![tactic(auto)]
+
 ghost use Rattle.std.specs.Prelude.{◌≡◌};
 ghost use Rattle.answers.specs.Answers.{answered, leaves, Comes, answer_number};
 ghost use Rattle.expression_answer.specs.Predicate.{predicate_result};

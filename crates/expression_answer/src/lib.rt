@@ -1,4 +1,6 @@
 // Questions about one expression: the refusals that stand before an answer, in their order.
+#![tactic(auto)]
+
 ghost use Rattle.std.specs.Prelude.{◌≡◌, ◌≤◌, length};
 ghost use Rattle.sheet.specs.Sheet.{sheet_of};
 ghost use Rattle.layout.specs.Places.{operand_limit};
@@ -15,7 +17,7 @@ use split_answer::write_conjuncts;
 mod predicate_answer;
 mod split_answer;
 
-#[derive(Drop)]
+#[derive(Clone, Copy)]
 pub enum Question {
     Predicate,
     Split,

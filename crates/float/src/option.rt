@@ -2,7 +2,7 @@
 ghost use Rattle.std.specs.Prelude.{◌≡◌};
 ghost use Rattle.float.specs.Option.{some, none};
 
-#[derive(Drop)]
+#[derive(Clone, Copy)]
 pub struct OptionF64 {
     pub present: bool,
     pub number: f64,

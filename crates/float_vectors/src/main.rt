@@ -1,6 +1,8 @@
 // Runs the compiled arithmetic on values from outside, which standard input lists, and writes for
 // each kind of value how many cases there were and how many differ.
 // `tests/make_float_vectors.py` makes the list and describes its records of 25 bytes.
+#![tactic(auto)]
+
 mod tallies;
 mod verdicts;
 

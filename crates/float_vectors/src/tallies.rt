@@ -6,7 +6,7 @@ ghost use Rattle.float_vectors.specs.Tallies.{known_kind, is_of, differs_in, tal
 use crate::verdicts::agrees_at;
 use le::reads::byte_at;
 
-#[derive(Drop)]
+#[derive(Clone, Copy)]
 pub struct Tally {
     pub cases: u64,
     pub differ: u64,

@@ -13,14 +13,14 @@ use scalar::types::{
 use scalar::{Scalar, is_null};
 use signed::i32_to_i64;
 
-#[derive(Drop)]
+#[derive(Clone, Copy)]
 pub enum IntervalFraction {
     NoFraction,
     Fraction(f64),
 }
 
 // Four ends, by the type of all four: those of a range and of its overlap.
-#[derive(Drop)]
+#[derive(Clone, Copy)]
 pub enum ScalarEnds {
     UnlikeTypes,
     NoWidth,

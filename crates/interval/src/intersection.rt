@@ -9,14 +9,14 @@ use rules::either;
 use scalar::order::{is_equal, is_greater, is_less, scalar_order};
 use scalar::{Bound, Scalar};
 
-#[derive(Drop)]
+#[derive(Clone, Copy)]
 pub struct DistinctIntersection {
     pub distinct: f64,
     pub domains_disjoint: bool,
 }
 
 // The lower and the upper bound of a column, where it has both.
-#[derive(Drop)]
+#[derive(Clone, Copy)]
 pub enum BoundPair {
     Missing,
     Both { lower: Scalar, upper: Scalar },

@@ -11,7 +11,7 @@ use predicate::filter_selectivity_for_predicate;
 use sheet::Sections;
 
 // The pairs, and the product over the conjuncts that equate no columns.
-#[derive(Drop)]
+#[derive(Clone, Copy)]
 pub struct Conjuncts {
     pub pairs: EqualityPairs,
     pub residual_selectivity: f64,

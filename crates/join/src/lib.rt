@@ -1,4 +1,6 @@
 // join_selectivity_from_conjuncts_with_config of the source's analysis.rs.
+#![tactic(auto)]
+
 ghost use Rattle.std.specs.Prelude.{◌≡◌, ◌≤◌, length};
 ghost use Rattle.layout.specs.Places.{conjunct_limit, coverages_size};
 ghost use Rattle.le.specs.Fields.{onto};
@@ -30,7 +32,7 @@ mod residual;
 
 // The source's JoinSelectivityEstimate: the classes as a state, the non-null columns as marks, and of
 // the coverages how many there are.
-#[derive(Drop)]
+#[derive(Clone, Copy)]
 pub struct Joined {
     pub selectivity: Estimate,
     pub match_probability: Estimate,

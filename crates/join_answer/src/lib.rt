@@ -1,4 +1,6 @@
 // The answer of a join.
+#![tactic(auto)]
+
 ghost use Rattle.std.specs.Prelude.{◌≡◌, ◌≤◌, length};
 ghost use Rattle.sheet.specs.Sheet.{sheet_of, conjuncts_of};
 ghost use Rattle.layout.specs.Places.{conjunct_limit};

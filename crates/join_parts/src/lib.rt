@@ -1,4 +1,6 @@
 // The parts of a join's answer, each to the front of what is lent.
+#![tactic(auto)]
+
 ghost use Rattle.std.specs.Prelude.{◌≡◌, ◌+◌, ◌*◌, ◌≤◌, ◌++◌, length, take};
 ghost use Rattle.le.specs.Fields.{onto};
 ghost use Rattle.layout.specs.Places.{conjunct_limit, count_size, number_size, coverage_size, figures_size};

@@ -1,6 +1,8 @@
 // Reads a sheet from standard input and writes the join's answer to standard output, or hex FF and the
 // number of the refusal. Of more than 65,536 bytes the first 65,536 are read: they are too many for a
 // sheet.
+#![tactic(auto)]
+
 ghost use Rattle.std.specs.Prelude.{◌≡◌, ◌≤◌, [], ◌∷◌, length};
 ghost use Rattle.io.specs.Counts.{IsPrefixLen};
 ghost use Rattle.le.specs.Fields.{onto};

@@ -1,5 +1,7 @@
 // What a sheet's tables and keys tell of columns: single_column_unique, single_column_foreign_key,
 // profile_has_complete_base_population and effective_join_distinct of the source's analysis.rs.
+#![tactic(auto)]
+
 ghost use Rattle.std.specs.Prelude.{◌≡◌};
 ghost use Rattle.records.specs.Catalog.{table_at, key_at};
 ghost use Rattle.sheet.specs.Sheet.{sheet_of, records_in};

@@ -1,5 +1,6 @@
 // Sizes, offsets and limits of what a sheet and an answer hold, by the names of specs/Places. An offset counts from the
 // first byte of the record.
+#![tactic(auto)]
 
 // ---- limits
 

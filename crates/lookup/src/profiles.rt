@@ -14,7 +14,7 @@ use sheet::Sections;
 
 // Where the profile of a column stands in the sheet, 0 where there is none, and the rows of the side
 // that it stands on.
-#[derive(Drop)]
+#[derive(Clone, Copy)]
 pub struct ProfilePlace {
     pub at: usize,
     pub rows: f64,

@@ -1,1 +1,2 @@
 // No code: document 01's marked cases stand in specs/, and their proof in proofs/.
+#![tactic(auto)]

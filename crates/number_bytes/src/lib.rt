@@ -1,4 +1,6 @@
 // Numbers written one after the other.
+#![tactic(auto)]
+
 ghost use Rattle.std.specs.Prelude.{◌≡◌, ◌≤◌, [], ◌∷◌, length};
 ghost use Rattle.le.specs.Fields.{onto};
 ghost use Rattle.layout.specs.Places.{number_size};

@@ -12,7 +12,7 @@ use lookup::numbers::{expression_kind, expression_place};
 use records::expressions::{BinaryOp, binary_op};
 use sheet::Sections;
 
-#[derive(Drop)]
+#[derive(Clone, Copy)]
 pub enum ColumnEquality {
     Absent,
     Present { left: u16, right: u16 },

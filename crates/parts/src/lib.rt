@@ -1,5 +1,7 @@
 // What the sides of a binary expression are: column_ref of the source's analysis.rs, and in the
 // modules its column_literal, column_equality and column_equality_from_parts.
+#![tactic(auto)]
+
 ghost use Rattle.std.specs.Prelude.{◌≡◌};
 ghost use Rattle.sheet.specs.Sheet.{sheet_of};
 ghost use Rattle.lookup.specs.Lookup.{expression_of};
@@ -13,7 +15,7 @@ use sheet::Sections;
 pub mod equalities;
 pub mod literals;
 
-#[derive(Drop)]
+#[derive(Clone, Copy)]
 pub enum OptionColumn {
     Absent,
     Present(u16),

@@ -12,7 +12,7 @@ use sheet::Sections;
 
 // A column beside a literal, by where the literal stands in the sheet: 0 where there is no such pair.
 // The operator is as it stands when the column comes first.
-#[derive(Drop)]
+#[derive(Clone, Copy)]
 pub struct PlacedLiteral {
     pub column: u16,
     pub at: usize,

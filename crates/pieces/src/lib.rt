@@ -1,6 +1,8 @@
 // Functions for programs in other languages, so that other code can be compared with this. A slice
 // passes as a pointer and a length, and `out` must share no byte with what is read. Nothing is asked
 // of the bytes: one past the end of what is read counts as 0.
+#![tactic(auto)]
+
 ghost use Rattle.std.specs.Prelude.{◌≡◌};
 ghost use Rattle.power.specs.Power.{power};
 ghost use Rattle.root.specs.Root.{root};

@@ -1,5 +1,7 @@
 // The power of document 01: products for the whole part of the exponent, repeated square roots for
 // 30 binary digits of its fraction, every operation rounded.
+#![tactic(auto)]
+
 ghost use Rattle.std.specs.Prelude.{◌≡◌, ◌-◌, ◌^◌, ◌<◌, ◌≤◌, false, T, pos, from_bits};
 ghost use Rattle.std.specs.Float.{binary64, fin};
 ghost use Rattle.std.specs.Float.Ieee.{size, le, lt};

@@ -1,5 +1,7 @@
 // filter_selectivity_for_predicate of the source's analysis.rs. An And or an Or is judged through its
 // operands, each of a smaller number.
+#![tactic(auto)]
+
 ghost use Rattle.std.specs.Prelude.{◌≡◌};
 ghost use Rattle.float.specs.Order.{f64_one};
 ghost use Rattle.lookup.specs.Lookup.{operands_of};

@@ -17,7 +17,7 @@ use range::selectivity::{default_estimate, unit_estimate};
 use records::expressions::{NaryOp, nary_op};
 use sheet::Sections;
 
-#[derive(Drop)]
+#[derive(Clone, Copy)]
 pub enum LeafOrRun {
     Leaf(Estimate),
     Run { op: NaryOp, first: u16, count: u16 },

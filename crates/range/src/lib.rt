@@ -1,4 +1,6 @@
 // range_selectivity of the source's analysis.rs.
+#![tactic(auto)]
+
 ghost use Rattle.std.specs.Prelude.{◌≡◌, ◌<◌, ◌^◌};
 ghost use Rattle.scalar_bytes.specs.Reading.{scalar_at};
 ghost use Rattle.records.specs.Columns.{column_profile_at};

@@ -8,19 +8,19 @@ use layout::{
 };
 use le::reads::{byte_at, u16_at, u64_at};
 
-#[derive(Drop)]
+#[derive(Clone, Copy)]
 pub enum RowCount {
     Unknown,
     Known(u64),
 }
 
-#[derive(Drop)]
+#[derive(Clone, Copy)]
 pub struct Table {
     pub table: u16,
     pub rows: RowCount,
 }
 
-#[derive(Drop)]
+#[derive(Clone, Copy)]
 pub enum Key {
     Unique {
         table: u16,

@@ -8,7 +8,7 @@ use layout::CLASS_DISTINCT_OFFSET;
 use le::reads::u16_at;
 
 // What stands before the columns. `count` is their number.
-#[derive(Drop)]
+#[derive(Clone, Copy)]
 pub struct ClassHead {
     pub count: u16,
     pub distinct: Estimate,

@@ -13,20 +13,20 @@ use scalar::Bound;
 use scalar_bytes::reads::bound_at;
 
 // The column of a table that a column's values come from.
-#[derive(Drop)]
+#[derive(Clone, Copy)]
 pub enum BaseColumn {
     Absent,
     Present { table: u16, column: u16 },
 }
 
 // A sketch, by its place in the section.
-#[derive(Drop)]
+#[derive(Clone, Copy)]
 pub enum SketchNumber {
     Absent,
     Present(u16),
 }
 
-#[derive(Drop)]
+#[derive(Clone, Copy)]
 pub struct ColumnProfile {
     pub column: u16,
     pub base: BaseColumn,

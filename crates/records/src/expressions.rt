@@ -11,7 +11,7 @@ use le::reads::{byte_at, u16_at};
 use scalar::Scalar;
 use scalar_bytes::reads::scalar_at;
 
-#[derive(Drop)]
+#[derive(Clone, Copy)]
 pub enum UnaryOp {
     Not,
     IsNull,
@@ -19,7 +19,7 @@ pub enum UnaryOp {
     Negate,
 }
 
-#[derive(Drop)]
+#[derive(Clone, Copy)]
 pub enum BinaryOp {
     Eq,
     IsNotDistinctFrom,
@@ -34,13 +34,13 @@ pub enum BinaryOp {
     Divide,
 }
 
-#[derive(Drop)]
+#[derive(Clone, Copy)]
 pub enum NaryOp {
     And,
     Or,
 }
 
-#[derive(Drop)]
+#[derive(Clone, Copy)]
 pub enum Expression {
     Literal(Scalar),
     ColumnRef(u16),

@@ -1,5 +1,5 @@
 // The settings: the source's CardinalityEstimationConfig. A figure reads the one that it goes by.
-#[derive(Drop)]
+#[derive(Clone, Copy)]
 pub struct CardinalityEstimationConfig {
     pub like_selectivity: f64,
     pub default_predicate_selectivity: f64,

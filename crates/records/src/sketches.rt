@@ -8,14 +8,14 @@ use scalar::Scalar;
 use scalar_bytes::reads::scalar_at;
 
 // What stands before the items. `count` is their number.
-#[derive(Drop)]
+#[derive(Clone, Copy)]
 pub struct SketchHead {
     pub population: u64,
     pub count: u16,
 }
 
 // A value, the least number of times that it occurs, and how far above that the true number may be.
-#[derive(Drop)]
+#[derive(Clone, Copy)]
 pub struct SketchItem {
     pub value: Scalar,
     pub lower: u64,

@@ -4,7 +4,7 @@ ghost use Rattle.root.specs.Digits.{RootDigits, all_digits};
 ghost use Rattle.root.specs.Guess.{guessed, guess, remainder_of, corrected};
 
 // digits * digits + rest is the number, and rest is at most 2 * digits.
-#[derive(Drop)]
+#[derive(Clone, Copy)]
 pub struct Digits {
     pub digits: u64,
     pub rest: u64,
@@ -81,7 +81,7 @@ fn guess(w: u64) -> u64
 }
 
 // What g * g leaves of w * 4^27, where it leaves little.
-#[derive(Drop)]
+#[derive(Clone, Copy)]
 struct Remainder {
     fits: bool,
     rest: u64,
@@ -137,7 +137,7 @@ fn remainder_of(w: u64, g: u64) -> Remainder
 }
 
 // The root of w * 4^27 from a number a little below it. `good` says that the test passed.
-#[derive(Drop)]
+#[derive(Clone, Copy)]
 struct Attempt {
     good: bool,
     digits: u64,

@@ -1,4 +1,6 @@
 // Refusal numbers, put together in the order of the checks: 0 where a rule is kept.
+#![tactic(auto)]
+
 ghost use Rattle.std.specs.Prelude.{◌≡◌, ◌&&◌, ◌||◌};
 ghost use Rattle.rules.specs.Rules.{ask, or_else};
 

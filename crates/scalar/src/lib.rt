@@ -1,4 +1,6 @@
 // The source's ScalarValue: its types and its order. Its number is defined in specs/Number.
+#![tactic(auto)]
+
 ghost use Rattle.std.specs.Prelude.{◌≡◌};
 ghost use Rattle.scalar.specs.Types.{is_null};
 
@@ -7,7 +9,7 @@ pub mod types;
 
 // Cases as in the source, without Utf8. Null has no type beside it, and a decimal's value lies
 // within 64 bits.
-#[derive(Drop)]
+#[derive(Clone, Copy)]
 pub enum Scalar {
     Null,
     Boolean(bool),
@@ -32,7 +34,7 @@ pub enum Scalar {
 }
 
 // A column's bound.
-#[derive(Drop)]
+#[derive(Clone, Copy)]
 pub enum Bound {
     Absent,
     Present(Scalar),

@@ -9,7 +9,7 @@ use crate::types::{
 };
 use signed::i32_to_i64;
 
-#[derive(Drop)]
+#[derive(Clone, Copy)]
 pub enum ScalarOrdering {
     Less,
     Equal,

@@ -8,19 +8,19 @@ use crate::Scalar;
 use rules::both;
 use signed::i32_to_i64;
 
-#[derive(Drop)]
+#[derive(Clone, Copy)]
 pub enum IntegerOption {
     NoInteger,
     Integer(i64),
 }
 
-#[derive(Drop)]
+#[derive(Clone, Copy)]
 pub enum FloatOption {
     NoFloat,
     FloatNumber(f64),
 }
 
-#[derive(Drop)]
+#[derive(Clone, Copy)]
 pub enum MonthDayNanoOption {
     NoMonthDayNano,
     MonthDayNano {
@@ -30,7 +30,7 @@ pub enum MonthDayNanoOption {
     },
 }
 
-#[derive(Drop)]
+#[derive(Clone, Copy)]
 pub enum DayTimeOption {
     NoDayTime,
     DayTime { days: i32, milliseconds: i32 },

@@ -16,7 +16,7 @@ use rules::{ask, both, either, or_else};
 use scalar::{Bound, Scalar};
 
 // Where a scalar stands. Only a bound may be absent, and a sketch holds no Null.
-#[derive(Drop)]
+#[derive(Clone, Copy)]
 pub enum ScalarPlace {
     Literal,
     Bound,

@@ -1,4 +1,6 @@
 // The scan that finds a record by its number.
+#![tactic(auto)]
+
 ghost use Rattle.std.specs.Prelude.{◌≡◌, ◌≤◌};
 ghost use Rattle.scan.specs.Scan.{first_place};
 

@@ -1,4 +1,6 @@
 // A join sheet: whether its bytes keep every rule, and where its sections stand.
+#![tactic(auto)]
+
 ghost use Rattle.std.specs.Prelude.{◌≡◌};
 ghost use Rattle.sheet.specs.Check.{verdict, check};
 
@@ -12,7 +14,7 @@ mod table;
 mod walk;
 
 // Where the count of each section stands.
-#[derive(Drop)]
+#[derive(Clone, Copy)]
 pub struct Sections {
     pub rows: u16,
     pub settings: u16,
@@ -28,7 +30,7 @@ pub struct Sections {
     pub conjuncts: u16,
 }
 
-#[derive(Drop)]
+#[derive(Clone, Copy)]
 pub enum Checked {
     Refused(u8),
     Accepted(Sections),

@@ -31,7 +31,7 @@ pub const CONJUNCTS: usize = OPERANDS + 1;
 pub const SECTION_COUNT: usize = CONJUNCTS + 1;
 
 // What the sections' records are.
-#[derive(Drop)]
+#[derive(Clone, Copy)]
 pub enum Kind {
     Rows,
     Settings,

@@ -12,7 +12,7 @@ use layout::{
 use le::reads::u16_at;
 
 // A record has one size, or a head in which the number of its items stands, and items of one size.
-#[derive(Drop)]
+#[derive(Clone, Copy)]
 pub enum Shape {
     Fixed(u16),
     Counted { head: u16, count: u16, item: u16 },
@@ -20,7 +20,7 @@ pub enum Shape {
 
 // What is carried along from record to record: how many items there were, how many operands, whose
 // operand the last one was.
-#[derive(Drop)]
+#[derive(Clone, Copy)]
 pub enum Tally {
     Nothing,
     Items,
@@ -28,7 +28,7 @@ pub enum Tally {
     Owner,
 }
 
-#[derive(Drop)]
+#[derive(Clone, Copy)]
 pub struct Section {
     pub least: u16,
     pub most: u16,

@@ -26,7 +26,7 @@ use rules::{ask, both, or_else};
 use sketch_rules::sketch_refusal;
 
 // A section was refused, or its end was reached.
-#[derive(Drop)]
+#[derive(Clone, Copy)]
 pub enum Reached {
     Refused(u8),
     At(usize),

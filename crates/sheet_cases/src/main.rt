@@ -1,6 +1,8 @@
 // Replays a stored list of sheets, which standard input holds, against `sheet::check` and the entries
 // of `estimates`, and writes how many cases there were of each kind and how many differ.
 // `rust/list` makes the list, and `tests/make_sheet_cases.py` describes its commands.
+#![tactic(auto)]
+
 mod claims;
 mod entries;
 

@@ -1,4 +1,6 @@
 // What a command of a list of sheets claims of a sheet alone, and whether that is so.
+#![tactic(auto)]
+
 ghost use Rattle.std.specs.Prelude.{◌≡◌, ◌+◌, ◌≤◌, ◌<◌, ◌^◌, length};
 ghost use Rattle.float.specs.Integers.{bit};
 ghost use Rattle.sheet_claims.specs.Claims.{is_refused, places_of, same_places, is_accepted, differing_below, unknown, one_case, judge_store, judge_refused, judge_prefixes};
@@ -18,7 +20,7 @@ pub mod tallies;
 // The line of the report that counts a command, its cases, and how many of them differ. The lines:
 // 0 unknown commands, 1 to 10 refused sheets by number, 11 accepted sheets, 12 prefixes, 13 stores,
 // 14 joins, 15 predicates, 16 splits.
-#[derive(Drop)]
+#[derive(Clone, Copy)]
 pub struct Verdict {
     pub line: u8,
     pub cases: u64,

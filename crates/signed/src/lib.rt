@@ -1,4 +1,6 @@
 // Two's complement, both ways.
+#![tactic(auto)]
+
 ghost use Rattle.std.specs.Prelude.{◌≡◌};
 ghost use Rattle.signed.specs.Signed.{signed, unsigned};
 

@@ -12,7 +12,7 @@ use le::reads::{u16_at, u64_at, word_at};
 use scalar::Scalar;
 
 // What a sketch tells of a value: no item has it, or the item's counts.
-#[derive(Drop)]
+#[derive(Clone, Copy)]
 pub enum FoundItem {
     Absent,
     Present { lower: u64, error: u64 },

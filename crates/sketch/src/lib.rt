@@ -1,4 +1,6 @@
 // frequent_value_selectivity of the source's analysis.rs, over sketches where they stand in a sheet.
+#![tactic(auto)]
+
 ghost use Rattle.std.specs.Prelude.{◌≡◌, ◌^◌, ◌<◌};
 ghost use Rattle.records.specs.Columns.{sketch_number_at, column_profile_at};
 ghost use Rattle.records.specs.Sketches.{sketch_at};

@@ -1,5 +1,7 @@
 // sketch_join_estimate and sketch_left_match_probability of the source's analysis.rs, over sketches
 // where they stand in a sheet.
+#![tactic(auto)]
+
 ghost use Rattle.std.specs.Prelude.{◌≡◌};
 ghost use Rattle.records.specs.Sketches.{sketch_at};
 ghost use Rattle.sheet.specs.Sheet.{records_in};

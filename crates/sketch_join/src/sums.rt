@@ -11,7 +11,7 @@ use sketch::items::{FoundItem, find_item, item_count};
 use std::num::nearest_u64_to_f64;
 
 // For pairs of rows.
-#[derive(Drop)]
+#[derive(Clone, Copy)]
 pub struct CommonValues {
     pub heavy_join_rows: f64,
     pub common_left_rows: f64,
@@ -20,7 +20,7 @@ pub struct CommonValues {
 }
 
 // For rows of the left side.
-#[derive(Drop)]
+#[derive(Clone, Copy)]
 pub struct MatchedValues {
     pub known_matched_left_rows: f64,
     pub common_values: f64,

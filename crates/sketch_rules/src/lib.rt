@@ -1,5 +1,7 @@
 // The rules of sketches. A function named for a refusal gives the number of the first rule broken, in
 // the order of the bytes, or 0.
+#![tactic(auto)]
+
 ghost use Rattle.std.specs.Prelude.{◌≡◌, ◌<◌, ◌≤◌, ◌^◌, ◌*◌, ◌+◌, ◌-◌, length, eqb};
 ghost use Rattle.le.specs.Fields.{field_at, u64_at};
 ghost use Rattle.rules.specs.Rules.{first_refusal};

@@ -1,5 +1,7 @@
 // conjuncts of the source's analysis.rs: an And is taken apart into its operands, each of a smaller
 // number.
+#![tactic(auto)]
+
 ghost use Rattle.std.specs.Prelude.{◌≡◌, ◌≤◌, length};
 ghost use Rattle.le.specs.Fields.{onto};
 ghost use Rattle.lookup.specs.Lookup.{operands_of};

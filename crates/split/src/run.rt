@@ -5,7 +5,7 @@ ghost use Rattle.split.specs.Conjuncts.{and_run};
 
 use records::expressions::{Expression, NaryOp};
 
-#[derive(Drop)]
+#[derive(Clone, Copy)]
 pub enum AndRun {
     Absent,
     Present { first: u16, count: u16 },
