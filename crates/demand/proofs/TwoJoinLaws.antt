@@ -56,6 +56,7 @@ within_facts p q w f m a b ma mb n =
 swapped : {first second c : ℕ} → Memᴰ c (first ∷ second ∷ []) → Memᴰ c (second ∷ first ∷ [])
 swapped (Memᴰ.head e) = Memᴰ.tail (Memᴰ.head e)
 swapped (Memᴰ.tail (Memᴰ.head e)) = Memᴰ.head e
+swapped (Memᴰ.tail (Memᴰ.tail m)) = elim m [ ]
 
 module _ {s t : Join} (w : EquatedIn s t) where
   step_over : (a b : ℕ) → Together (Equated s) a b → Linked (Equated t) a b

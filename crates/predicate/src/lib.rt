@@ -19,7 +19,7 @@ use sheet::Sections;
 mod leaves;
 mod run;
 
-#[cycle(filter_selectivity_for_predicate_operand_product)]
+#[cycle(predicate)]
 pub fn filter_selectivity_for_predicate(s: &[u8], q: Sections, e: u16) -> Estimate
     ensures { result ≡ filter_selectivity_for_predicate (sheet_of s.now q) e }
 {
@@ -34,7 +34,7 @@ pub fn filter_selectivity_for_predicate(s: &[u8], q: Sections, e: u16) -> Estima
 
 // The product over a run of operands. One that is not below the limit, which no accepted sheet has, has
 // the default.
-#[cycle(filter_selectivity_for_predicate_operand_product)]
+#[cycle(predicate)]
 fn operand_product(s: &[u8], q: Sections, op: NaryOp, first: u16, count: u16, limit: u16) -> f64
     ensures { result ≡ operand_product op (below (selectivity_by (sheet_of s.now q)) (default_of (sheet_of s.now q)) limit) f64_one (operands_of (sheet_of s.now q) first count) }
 {

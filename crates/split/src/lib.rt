@@ -16,7 +16,7 @@ use sheet::Sections;
 mod run;
 
 // The conjuncts' numbers at the front of `numbers`, and how many there are.
-#[cycle(put_conjuncts_put_operands)]
+#[cycle(conjuncts)]
 pub fn put_conjuncts(s: &[u8], q: Sections, e: u16, numbers: &mut [u16]) -> usize
     requires { length (conjuncts (sheet_of s.now q) e) ≤ length numbers.old }
     ensures value { result ≡ length (conjuncts (sheet_of s.now q) e) }
@@ -34,7 +34,7 @@ pub fn put_conjuncts(s: &[u8], q: Sections, e: u16, numbers: &mut [u16]) -> usiz
 
 // Those of a run of operands. One that is not below the limit, which no accepted sheet has, is kept as it
 // is.
-#[cycle(put_conjuncts_put_operands)]
+#[cycle(conjuncts)]
 fn put_operands(
     s: &[u8],
     q: Sections,

@@ -1,0 +1,10 @@
+use Rattle.std.proofs.Common.{◌≡◌, ◌-◌, ◌≤◌}
+use Rattle.le.specs.Fields.{u16_at}
+use Rattle.keys.proofs.KeyLaws.{UniqueRest}
+use Rattle.keys.proofs.has_unique.Given as goal
+
+abbrev pub invariant-loop-i : goal.invariant-loop-i
+invariant-loop-i l = (l.n ≡ u16_at l.s l.start) × (l.n ≤ 65535) × UniqueRest l.s l.start l.table l.column l.i
+
+abbrev pub decreases-loop-i : goal.decreases-loop-i
+decreases-loop-i l = l.n - l.i

@@ -1,0 +1,5 @@
+use Rattle.keys.proofs.KeyLaws.{listed_is}
+use Rattle.keys.proofs.is_listed.Goals as goal
+
+pub returns : goal.returns
+returns c = listed_is c.args.s.now _ _ _ c.first_place.ensures
