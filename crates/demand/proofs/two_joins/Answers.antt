@@ -1,0 +1,10 @@
+use Rattle.std.proofs.Common.{sym, ◌∙◌}
+use Rattle.demand.proofs.Demand3.{demand3}
+use Rattle.demand.proofs.two_joins.Goals as goal
+
+pub returns-clause-by_index : goal.returns-clause-by_index
+returns-clause-by_index c =
+    λ m n e f.
+    demand3
+    (record { sheet = _; lent = _; size = m; after = _; comes = (sym e ∙ c.join-first.ensures.0, c.join-first.ensures.1) })
+    (record { sheet = _; lent = _; size = n; after = _; comes = (sym f ∙ c.join-second.ensures.0, c.join-second.ensures.1) })
