@@ -1,22 +1,30 @@
 #!/usr/bin/env python3
-"""Writes the table of docs/CRATES.md anew, from crates.txt, the crates' files and the log of a check.
+"""Writes the table of docs/CRATES.md anew, from crates.txt and the crates' files.
 
-usage: tests/crate_map.py LOG, where LOG is what `rt check` or `rt ci` wrote while it proved every crate
+usage: tests/crate_map.py [--time]
 
 The table stands between two marker lines; what is around it stays. Lines count that hold more than blanks and a
 comment. A crate that crates.txt lists for another, though no file of that other names it and nothing listed beside it
-rests on it, only keeps the order of the checks and is left out. The script writes nothing and ends with a message
-where the log has no seconds for a crate.
+rests on it, is left out.
+
+The seconds stay those that the table has; a crate that it lacks gets none. With --time they are taken anew: lowest
+first, each crate's kept work is removed and `rt check` proves it, which takes as long as all proofs one by one. Other
+checkouts on the machine may hold no kept work of the same crates, since a check would begin with it. The script writes
+nothing and ends with a message where one does, or where a crate is not proved.
 """
 import pathlib
 import re
+import shutil
+import subprocess
 import sys
+import time
 
 ROOT = pathlib.Path(__file__).resolve().parent.parent
 DOCUMENT = ROOT / "docs/CRATES.md"
 BEGIN = "<!-- crate_map.py: begin -->"
 END = "<!-- crate_map.py: end -->"
 HEAD = ("Crate", "Layer", "Rests on", "Code", "Definitions", "Proof", "Edits", "Seconds")
+PARTS = ("src", "specs", "proofs")
 COMMENTS = {".rt": "//", ".antt": "--"}
 
 
@@ -24,8 +32,9 @@ def listed():
     """The crates in the order of crates.txt, each with the crates listed for it; the toolchain's own are left out."""
     lines = (ROOT / "crates.txt").read_text().splitlines()
     entries = [line.partition(":") for line in lines if line and not line.startswith("#")]
-    names = {name for name, _, _ in entries}
-    return {name: [other for other in others.split() if other in names] for name, _, others in entries}
+    entries = [(kind.split()[0], others.split()) for kind, _, others in entries]
+    names = {name for name, _ in entries}
+    return {name: [other for other in others if other in names] for name, others in entries}
 
 
 def sources(path):
@@ -44,8 +53,9 @@ def lines_of(path):
 
 def named(crate):
     """The names that a crate's files have as those of crates."""
-    text = "\n".join(file.read_text() for file in sources(ROOT / "crates" / crate))
-    return set(re.findall(r"Rattle·([a-z0-9_]+)", text)) | set(re.findall(r"\b([a-z0-9_]+)::", text))
+    files = [file for part in PARTS for file in sources(ROOT / "crates" / crate / part)]
+    text = "\n".join(file.read_text() for file in files)
+    return set(re.findall(r"\bRattle\.([a-z0-9_]+)\.", text)) | set(re.findall(r"\b([a-z0-9_]+)::", text))
 
 
 def below(crates, name):
@@ -62,7 +72,7 @@ def implied(crates, other, others):
 
 
 def used(crates):
-    """The same crates without what only keeps the order of the checks."""
+    """The same crates without what they do not use."""
     kept = {}
     for name, others in crates.items():
         names = named(name)
@@ -79,14 +89,30 @@ def layer(crates, name):
     return 1 + max((layer(crates, other) for other in direct(crates, name)), default=0)
 
 
-def seconds(log, crates):
-    """The seconds that the proof of each crate took."""
-    found = dict(re.findall(r"^rt: (\S+) proved \((\d+) s\)$", log.read_text(), re.MULTILINE))
-    missing = [name for name in crates if name not in found]
-    if missing:
-        sys.exit(f"{log} has no line 'rt: NAME proved (N s)' for {', '.join(missing)}: "
-                 "give the log of a check that proved every crate anew")
-    return {name: int(found[name]) for name in crates}
+def written(document):
+    """The seconds that the table has."""
+    found = re.findall(r"^\| `(\w+)` \|.* ([\d,]+) \|$", document, re.MULTILINE)
+    return {name: int(number.replace(",", "")) for name, number in found}
+
+
+def timed(crates):
+    """The seconds that the proof of each crate takes, with nothing kept of it and with the crates below it built."""
+    took = {}
+    for name in sorted(crates, key=lambda name: layer(crates, name)):
+        place = ROOT / "crates" / name
+        shutil.rmtree(place / "out/incremental", ignore_errors=True)
+        start = time.monotonic()
+        run = subprocess.run(["rt", "check"], cwd=place, stdout=subprocess.PIPE, stderr=subprocess.STDOUT, text=True)
+        took[name] = round(time.monotonic() - start)
+        if run.returncode:
+            sys.exit(f"{name} is not proved:\n{run.stdout}")
+        kept = re.search(rf"^rt: {name}: begins with what a check kept in (.*)$", run.stdout, re.MULTILINE)
+        if kept:
+            sys.exit(f"{name} was not proved from nothing: remove the folder out of {kept[1]}")
+        if not (place / "src/main.rt").exists():
+            subprocess.run(["rt", "lib"], cwd=place, stdout=subprocess.DEVNULL, check=True)
+        print(f"{name}: {took[name]} s", flush=True)
+    return took
 
 
 def rows(crates, took):
@@ -95,14 +121,14 @@ def rows(crates, took):
     for name in crates:
         place = ROOT / "crates" / name
         edits = len(list((place / "must-fail").glob("*.edit")))
-        counts = [lines_of(place / part) for part in ("src", "specs", "proofs")]
+        counts = [lines_of(place / part) for part in PARTS]
         rests = ", ".join(f"`{other}`" for other in direct(crates, name))
-        made.append([f"`{name}`", layer(crates, name), rests, *counts, edits, took[name]])
+        made.append([f"`{name}`", layer(crates, name), rests, *counts, edits, took.get(name, "")])
     return sorted(made, key=lambda row: row[1])
 
 
 def table(made):
-    sums = [sum(row[column] for row in made) for column in range(3, len(HEAD))]
+    sums = [sum(row[column] or 0 for row in made) for column in range(3, len(HEAD))]
     total = [f"{len(made)} crates", "", "", *sums]
     bar = ["---", "---:", "---", *["---:"] * 5]
     shown = [HEAD, bar, *made, total]
@@ -110,17 +136,14 @@ def table(made):
 
 
 def main():
-    if len(sys.argv) != 2:
-        sys.exit("usage: tests/crate_map.py LOG")
-    log = pathlib.Path(sys.argv[1])
-    if not log.is_file():
-        sys.exit(f"{log} is no file: give the log of `rt check` or `rt ci`")
+    if sys.argv[1:] not in ([], ["--time"]):
+        sys.exit("usage: tests/crate_map.py [--time]")
     text = DOCUMENT.read_text()
     parts = re.split(f"({re.escape(BEGIN)}\n|{re.escape(END)})", text)
     if len(parts) != 5 or not parts[1].startswith(BEGIN):
         sys.exit(f"{DOCUMENT} has to have the lines {BEGIN} and {END}, once each and in this order")
     crates = used(listed())
-    made = rows(crates, seconds(log, crates))
+    made = rows(crates, timed(crates) if sys.argv[1:] else written(parts[2]))
     parts[2] = table(made) + "\n"
     DOCUMENT.write_text("".join(parts))
     print(f"{len(made)} crates in {DOCUMENT.relative_to(ROOT)}")

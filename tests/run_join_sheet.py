@@ -1,7 +1,7 @@
 #!/usr/bin/env python3
 """Runs the program join_sheet on the sheets of the gate's list, and on inputs that are longer than any sheet.
 
-usage: tests/run_join_sheet.py, once `rt check join_sheet` has built target/bin/join_sheet
+usage: tests/run_join_sheet.py, once `rt run < stdin` in crates/join_sheet has built it
 
 The list, crates/sheet_cases/stdin, holds commands of 32 bytes that tests/make_sheet_cases.py describes. Each sheet
 that it has a join's answer for has to give that answer, and each that is refused hex FF and its number. The script
@@ -12,7 +12,7 @@ import subprocess
 import sys
 
 ROOT = pathlib.Path(__file__).resolve().parent.parent
-PROGRAM = ROOT / "target/bin/join_sheet"
+PROGRAM = ROOT / "crates/join_sheet/out/join_sheet"
 LIST = ROOT / "crates/sheet_cases/stdin"
 STORE_SHEET, REFUSED, STORE_ANSWER, JOIN = 1, 2, 5, 6
 
@@ -47,7 +47,7 @@ def too_long():
 
 def main():
     if not PROGRAM.exists():
-        sys.exit(f"{PROGRAM} is not there: run 'rt check join_sheet' first")
+        sys.exit(f"{PROGRAM} is not there: run 'rt run < stdin' in crates/join_sheet first")
     runs = differ = 0
     for sheet, expected in [*listed(), *too_long()]:
         runs += 1

@@ -1,4 +1,4 @@
-//! Links the static library that `rt staticlib pieces` writes.
+//! Links the static library that `rust/libraries pieces` builds.
 
 use std::path::Path;
 use std::process;
@@ -9,7 +9,7 @@ fn main() {
     println!("cargo::rerun-if-changed={}", library.display());
     if !library.exists() {
         println!(
-            "cargo::error={} is not there: run 'rt staticlib pieces' first",
+            "cargo::error={} is not there: run 'rust/libraries pieces' first",
             library.display()
         );
         process::exit(1);

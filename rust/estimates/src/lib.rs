@@ -7,7 +7,7 @@
 //! inputs; this crate adds the call and the reading of the answer's bytes.
 //!
 //! Building it needs `target/staticlib/libestimates.a` of the repository, which
-//! `rt staticlib estimates` writes, and x86-64. `include/estimates.h` declares the same functions
+//! `rust/libraries estimates` builds, and x86-64. `include/estimates.h` declares the same functions
 //! for C and C++.
 //!
 //! # A join
@@ -93,7 +93,7 @@ use sheet::answers::read_split;
 /// No join's answer has more bytes than this, so a [`join_bytes`] into so many is never refused
 /// with 12.
 ///
-/// It is the bound that `join-within` proves (`crates/join_answer/proofs/BoundLaws.antt` of the
+/// It is the bound that `join_within` proves (`crates/join_answer/proofs/BoundLaws.antt` of the
 /// repository), and there are sheets whose answer has so many.
 pub const LONGEST_JOIN: usize = 5_124;
 
@@ -101,7 +101,7 @@ pub const LONGEST_JOIN: usize = 5_124;
 pub const LONGEST_PREDICATE: usize = 26;
 
 /// No split's answer has more bytes than this: a count, and at most 512 conjuncts of two bytes
-/// each, as `accepted-split` proves (`crates/split_range/proofs/SplitRangeLaws.antt` of the
+/// each, as `accepted_split` proves (`crates/split_range/proofs/SplitRangeLaws.antt` of the
 /// repository).
 pub const LONGEST_SPLIT: usize = 2 + 2 * 512;
 

@@ -1,6 +1,6 @@
 //! The static library's three functions, and the only unsafe code of this crate.
 //!
-//! Their contracts (`crates/estimates/src/lib.rt` of the repository) ask nothing of the bytes, and
+//! Their contracts (`crates/estimates_c/src/lib.rt` of the repository) ask nothing of the bytes, and
 //! hold for every sheet, number and output: the call ends, reads and writes inside the two slices
 //! alone, and answers the length that it wrote, or 2^32 plus a refusal's number. What no contract
 //! can see is left to the caller: that each pointer is good for its length, and that the output
