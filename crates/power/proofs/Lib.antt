@@ -1,3 +1,4 @@
 pub mod Powers
 pub mod Exponents
 pub mod Within
+pub mod Remainders

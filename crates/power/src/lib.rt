@@ -64,8 +64,8 @@ fn fraction_digits(b: u64) -> u64
 
 // x to the power f, where f lies from 1 to below 2^63.
 fn finite_power(x: f64, f: f64) -> f64
-    requires t { T (le f64_one f) }
-    requires t_2 { T (lt f (fin false 1 (pos 63))) }
+    requires at_least_one { T (le f64_one f) }
+    requires below_limit { T (lt f (fin false 1 (pos 63))) }
     ensures { result ≡ finite_power x f }
 {
     let n = std::num::truncating_f64_to_u64(f);

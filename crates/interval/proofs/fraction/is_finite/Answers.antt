@@ -1,0 +1,17 @@
+use lib.Ieee.Scale.{finite}
+use mathlib.Core.Bool.{true, false, ◌&&◌}
+use mathlib.Core.Path.{◌≡◌, refl, ◌∙◌}
+use lib.Ieee.{Float, nan, inf, fin, of_bits, neg, div, lt}
+use Rattle.interval.proofs.fraction.is_finite.Goals as goal
+
+-- above minus infinity and below infinity
+finite-is : (x : Float) → (lt (inf true) x && lt x (inf false)) ≡ finite x
+unfolding lt
+finite-is nan = refl
+finite-is (inf true) = refl
+finite-is (inf false) = refl
+finite-is (fin s m e) = refl
+
+pub returns : goal.returns
+unfolding of_bits neg div
+returns c = c.both.ensures ∙ finite-is c.args.x
