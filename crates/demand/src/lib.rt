@@ -18,9 +18,9 @@ pub struct TwoAnswers {
 
 // Any two joins, asked of the entry one after the other: each answer and output is the entry's.
 pub fn two_joins(a: &[u8], b: &[u8], x: &mut [u8], y: &mut [u8]) -> TwoAnswers
-    ensures comes { Comes (join_result a.now) x.old result.first x.new }
-    ensures comes_2 { Comes (join_result b.now) y.old result.second y.new }
-    ensures by_index { (m n : ℕ) → result.first ≡ Written m → result.second ≡ Written n → TwoJoins (join_in a.now) (join_in b.now) (take m x.new) (take n y.new) }
+    ensures first { Comes (join_result a.now) x.old result.first x.new }
+    ensures second { Comes (join_result b.now) y.old result.second y.new }
+    ensures two_joins { (m n : ℕ) → result.first ≡ Written m → result.second ≡ Written n → TwoJoins (join_in a.now) (join_in b.now) (take m x.new) (take n y.new) }
 {
     let first = estimates::join(a, x);
     let second = estimates::join(b, y);

@@ -2,8 +2,8 @@ use Rattle.std.proofs.Common.{sym, ◌∙◌}
 use Rattle.demand.proofs.Demand3.{demand3}
 use Rattle.demand.proofs.two_joins.Goals as goal
 
-pub returns-clause-by_index : goal.returns-clause-by_index
-returns-clause-by_index c =
+pub returns-clause-two_joins : goal.returns-clause-two_joins
+returns-clause-two_joins c =
     λ m n e f.
     demand3
     (record { sheet = _; lent = _; size = m; after = _; comes = (sym e ∙ c.join-first.ensures.0, c.join-first.ensures.1) })
