@@ -5,7 +5,6 @@ use mathlib.Core.List.{List, [], ◌∷◌}
 use native.Mathlib.Omega.{arith}
 use borrow.Author.Tests.{le-leb}
 use lib.ListN.{length, length-take}
-use Rattle.io.specs.Counts.{IsPrefixLen}
 use Rattle.le.specs.Fields.{onto}
 use Rattle.le.proofs.OntoLaws.{onto_length}
 use Rattle.sheet.specs.Check.{check}
@@ -21,7 +20,7 @@ use Rattle.layout.specs.Places.{longest_join}
 use Rattle.join_answer.specs.Join.{join_bytes, join_result}
 use Rattle.join_parts.proofs.ConjunctLaws.{accepted_conjuncts}
 use Rattle.join_answer.proofs.BoundLaws.{join_within}
-use Rattle.join_sheet.specs.Reply.{reply_bytes}
+use Rattle.join_sheet.specs.Reply.{reply_bytes, IsPrefixLen}
 
 -- a result whose bytes, if it has any, fit a buffer of 65,536
 abbrev Small : Result → Type 0

@@ -1,16 +1,16 @@
 // Reads a sheet from standard input and writes the join's answer to standard output, or hex FF and the
 // number of the refusal. Of more than 65,536 bytes the first 65,536 are read: they are too many for a
-// sheet.
+// sheet. A read or a write that fails ends the program with its error.
 #![tactic(auto)]
 
 ghost use Rattle.std.specs.Prelude.{◌≡◌, ◌≤◌, [], ◌∷◌, length};
-ghost use Rattle.io.specs.Counts.{IsPrefixLen};
 ghost use Rattle.le.specs.Fields.{onto};
 ghost use Rattle.join_answer.specs.Join.{join_result};
-ghost use Rattle.join_sheet.specs.Reply.{reply_bytes};
+ghost use Rattle.join_sheet.specs.Reply.{reply_bytes, IsPrefixLen};
 
 use answers::Answer;
-use libc::{STDIN_FILENO, STDOUT_FILENO};
+use std::io;
+use std::io::Read;
 
 fn put_refusal(out: &mut [u8], n: u8)
     requires { 2 ≤ length out.old }
@@ -37,10 +37,10 @@ fn put_reply(sheet: &[u8], out: &mut [u8]) -> usize
     }
 }
 
-fn main() {
-    let mut sheet = io::large_buffer();
-    let mut out = io::large_buffer();
-    let n = io::read_full(STDIN_FILENO, &mut sheet);
-    let m = put_reply(&sheet[..n], &mut out);
-    io::write_all(STDOUT_FILENO, &out[..m]);
+fn main(rt: HostRuntime) -> io::Result<()> {
+    let mut sheet = Vec::new(rt.alloc());
+    rt.reader().take(65_536).read_to_end(&mut sheet)?;
+    let mut out = vec![in rt.alloc(); 0u8; 65_536]?;
+    let n = put_reply(&sheet, &mut out);
+    rt.write_all(&out[..n])
 }

@@ -1,14 +1,17 @@
 // Replays a stored list of sheets, which standard input holds, against `sheet::check` and the entries
 // of `estimates`, and writes how many cases there were of each kind and how many differ.
-// `rust/list` makes the list, and `tests/make_sheet_cases.py` describes its commands.
+// `rust/list` makes the list, and `tests/make_sheet_cases.py` describes its commands. A read or a write
+// that fails ends the program with its error.
 #![tactic(auto)]
 
 mod claims;
 mod entries;
 
-use libc::{STDIN_FILENO, STDOUT_FILENO};
 use sheet_claims::commands::COMMAND_SIZE;
 use sheet_claims::{stores, tallies};
+use std::alloc::Global;
+use std::io;
+use std::io::{BufReader, Read};
 
 // One command: its verdict on the two buffers as they stand, and then what it stores.
 fn replay_one(
@@ -27,71 +30,95 @@ fn replay_one(
 
 // Replays the commands up to the first that is not there whole, and gives how many bytes of that
 // one there are. After 1,000,000 commands it stops and gives the size of a whole one.
-fn replay(sheet: &mut [u8], answer: &mut [u8], cases: &mut [u64], differ: &mut [u64]) -> usize {
-    let mut command = [0u8; COMMAND_SIZE];
+fn replay<R: Read>(
+    alloc: Global,
+    input: &mut R,
+    sheet: &mut [u8],
+    answer: &mut [u8],
+    cases: &mut [u64],
+    differ: &mut [u64],
+) -> io::Result<usize> {
+    let mut command = Vec::new(alloc);
     let mut i = 0usize;
     while i < 1_000_000 {
-        let n = io::read_full(STDIN_FILENO, &mut command);
+        command.clear();
+        let n = input
+            .by_ref()
+            .take(COMMAND_SIZE as u64)
+            .read_to_end(&mut command)?;
         if n < COMMAND_SIZE {
-            return n;
+            return Ok(n);
         }
         replay_one(sheet, answer, &command, cases, differ);
         i += 1;
     }
-    COMMAND_SIZE
+    Ok(COMMAND_SIZE)
 }
 
-fn write_line(name: &[u8], cases: &[u64], differ: &[u64], line: usize) {
-    io::write_all(STDOUT_FILENO, name);
-    io::print_decimal(STDOUT_FILENO, tallies::count_of(cases, line));
-    io::write_all(STDOUT_FILENO, b" cases, ");
-    io::print_decimal(STDOUT_FILENO, tallies::count_of(differ, line));
-    io::write_all(STDOUT_FILENO, b" differ\n");
+fn write_line(
+    rt: &impl Print,
+    name: &str,
+    cases: &[u64],
+    differ: &[u64],
+    line: usize,
+) -> io::Result<()> {
+    println!(rt;
+        "{name}{} cases, {} differ",
+        tallies::count_of(cases, line),
+        tallies::count_of(differ, line)
+    )
 }
 
-fn write_tallies(cases: &[u64], differ: &[u64]) {
-    write_line(b"refused by 1: ", cases, differ, 1);
-    write_line(b"refused by 2: ", cases, differ, 2);
-    write_line(b"refused by 3: ", cases, differ, 3);
-    write_line(b"refused by 4: ", cases, differ, 4);
-    write_line(b"refused by 5: ", cases, differ, 5);
-    write_line(b"refused by 6: ", cases, differ, 6);
-    write_line(b"refused by 7: ", cases, differ, 7);
-    write_line(b"refused by 8: ", cases, differ, 8);
-    write_line(b"refused by 9: ", cases, differ, 9);
-    write_line(b"refused by 10: ", cases, differ, 10);
-    write_line(b"accepted: ", cases, differ, 11);
-    write_line(b"prefixes: ", cases, differ, 12);
-    write_line(b"stores: ", cases, differ, 13);
-    write_line(b"joins: ", cases, differ, 14);
-    write_line(b"predicates: ", cases, differ, 15);
-    write_line(b"splits: ", cases, differ, 16);
-    write_line(b"unknown: ", cases, differ, 0);
+fn write_tallies(rt: &impl Print, cases: &[u64], differ: &[u64]) -> io::Result<()> {
+    write_line(rt, "refused by 1: ", cases, differ, 1)?;
+    write_line(rt, "refused by 2: ", cases, differ, 2)?;
+    write_line(rt, "refused by 3: ", cases, differ, 3)?;
+    write_line(rt, "refused by 4: ", cases, differ, 4)?;
+    write_line(rt, "refused by 5: ", cases, differ, 5)?;
+    write_line(rt, "refused by 6: ", cases, differ, 6)?;
+    write_line(rt, "refused by 7: ", cases, differ, 7)?;
+    write_line(rt, "refused by 8: ", cases, differ, 8)?;
+    write_line(rt, "refused by 9: ", cases, differ, 9)?;
+    write_line(rt, "refused by 10: ", cases, differ, 10)?;
+    write_line(rt, "accepted: ", cases, differ, 11)?;
+    write_line(rt, "prefixes: ", cases, differ, 12)?;
+    write_line(rt, "stores: ", cases, differ, 13)?;
+    write_line(rt, "joins: ", cases, differ, 14)?;
+    write_line(rt, "predicates: ", cases, differ, 15)?;
+    write_line(rt, "splits: ", cases, differ, 16)?;
+    write_line(rt, "unknown: ", cases, differ, 0)
 }
 
-// Says where the list was left, unless that was at its end. `read_full` also stops at a read that
-// fails; only at the end does one more read give 0.
-fn write_end(left: usize) {
+// Says where the list was left, unless that was at its end. Only at the end does one more read
+// give 0.
+fn write_end<R: Read>(rt: &impl Print, input: &mut R, left: usize) -> io::Result<()> {
     let mut more = [0u8; 1];
     if left == COMMAND_SIZE {
-        io::write_all(STDOUT_FILENO, b"the list is too long\n");
-        return;
+        return println!(rt; "the list is too long");
     }
-    if libc::read(STDIN_FILENO, &mut more) != 0 {
-        io::write_all(STDOUT_FILENO, b"the list was not read to its end\n");
-        return;
+    if input.read(&mut more)? != 0 {
+        return println!(rt; "the list was not read to its end");
     }
     if left != 0 {
-        io::write_all(STDOUT_FILENO, b"the last command is torn\n");
+        return println!(rt; "the last command is torn");
     }
+    Ok(())
 }
 
-fn main() {
-    let mut sheet = io::large_buffer();
-    let mut answer = io::large_buffer();
+fn main(rt: HostRuntime) -> io::Result<()> {
+    let mut input = BufReader::new(rt.alloc(), rt.reader())?;
+    let mut sheet = vec![in rt.alloc(); 0u8; 65_536]?;
+    let mut answer = vec![in rt.alloc(); 0u8; 65_536]?;
     let mut cases = [0u64; 17];
     let mut differ = [0u64; 17];
-    let left = replay(&mut sheet, &mut answer, &mut cases, &mut differ);
-    write_end(left);
-    write_tallies(&cases, &differ);
+    let left = replay(
+        rt.alloc(),
+        &mut input,
+        &mut sheet,
+        &mut answer,
+        &mut cases,
+        &mut differ,
+    )?;
+    write_end(&rt, &mut input, left)?;
+    write_tallies(&rt, &cases, &differ)
 }
