@@ -4,7 +4,7 @@ use mathlib.Core.Path.{◌≡◌, refl, ap, ◌∙◌}
 use mathlib.Core.List.{List, [], ◌∷◌}
 use native.Mathlib.Omega.{arith}
 use borrow.Author.Tests.{le-leb}
-use lib.ListN.{length, length-take}
+use lib.ListN.{length, take, length-take}
 use Rattle.le.specs.Fields.{onto}
 use Rattle.le.proofs.OntoLaws.{onto_length}
 use Rattle.sheet.specs.Check.{check}
@@ -20,7 +20,7 @@ use Rattle.layout.specs.Places.{longest_join}
 use Rattle.join_answer.specs.Join.{join_bytes, join_result}
 use Rattle.join_parts.proofs.ConjunctLaws.{accepted_conjuncts}
 use Rattle.join_answer.proofs.BoundLaws.{join_within}
-use Rattle.join_sheet.specs.Reply.{reply_bytes, IsPrefixLen}
+use Rattle.join_sheet.specs.Reply.{reply_bytes}
 
 -- a result whose bytes, if it has any, fit a buffer of 65,536
 abbrev Small : Result → Type 0
@@ -46,7 +46,7 @@ reply_fits s bs e = go (check s) refl e
 
 -- the reply's length, and the buffer with the reply at its front
 abbrev Put : Result → List ℕ → ℕ → List ℕ → Type 0
-Put result out n after = (n ≡ length (reply_bytes result)) × ((after ≡ onto (reply_bytes result) out) × IsPrefixLen n after)
+Put result out n after = (n ≡ length (reply_bytes result)) × ((after ≡ onto (reply_bytes result) out) × ((n ≤ length after) × (length (take n after) ≡ n)))
 
 put : (result : Result) (out : List ℕ) (n : ℕ) (after : List ℕ) → n ≡ length (reply_bytes result) → after ≡ onto (reply_bytes result) out → length (reply_bytes result) ≤ length out → Put result out n after
 put result out n after e f h =
@@ -54,7 +54,7 @@ put result out n after e f h =
     let m = ap length f in
     (e, (f, counts n after (omega arith)))
   where
-    counts : (n : ℕ) (after : List ℕ) → n ≤ length after → IsPrefixLen n after
+    counts : (n : ℕ) (after : List ℕ) → n ≤ length after → (n ≤ length after) × (length (take n after) ≡ n)
     counts n after h = let t = length-take n after in (h, omega arith)
 
 no : ◌≡◌ {A = ℕ} 0 1 → ⊥

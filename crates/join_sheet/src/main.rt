@@ -3,10 +3,10 @@
 // sheet. A read or a write that fails ends the program with its error.
 #![tactic(auto)]
 
-ghost use Rattle.std.specs.Prelude.{◌≡◌, ◌≤◌, [], ◌∷◌, length};
+ghost use Rattle.std.specs.Prelude.{◌≡◌, ◌≤◌, [], ◌∷◌, length, take};
 ghost use Rattle.le.specs.Fields.{onto};
 ghost use Rattle.join_answer.specs.Join.{join_result};
-ghost use Rattle.join_sheet.specs.Reply.{reply_bytes, IsPrefixLen};
+ghost use Rattle.join_sheet.specs.Reply.{reply_bytes};
 
 use answers::Answer;
 use std::io;
@@ -25,7 +25,7 @@ fn put_reply(sheet: &[u8], out: &mut [u8]) -> usize
     requires { 65536 ≤ length out.old }
     ensures value { result ≡ length (reply_bytes (join_result sheet.now)) }
     ensures out_after { out.new ≡ onto (reply_bytes (join_result sheet.now)) out.old }
-    ensures prefix_len { IsPrefixLen result out.new }
+    ensures prefix_len { (result ≤ length out.new) × (length (take result out.new) ≡ result) }
 {
     let answer = estimates::join(sheet, out);
     match answer {

@@ -62,7 +62,7 @@ pub data ColumnLiteral : Type 0 where
   Pair : ℕ → Scalar → BinaryOp → ColumnLiteral
 
 abbrev pub column_beside : BinaryOp → OptionColumn → OptionLiteral → ColumnLiteral
-column_beside op NoColumn literal = NoPair
+column_beside op NoColumn _ = NoPair
 column_beside op (Column column) NoLiteral = NoPair
 column_beside op (Column column) (Value literal) = Pair column literal op
 
