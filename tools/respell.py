@@ -6,7 +6,8 @@ usage: python3 tools/respell.py        at the top, once, right after port.py
 A definition, a lemma, a record's field or a variable of .antt files that has capitals inside or dashes gets snake case:
 `sheetRefusal` is `sheet_refusal`, `filled-part` is `filled_part`. Types, facts, modules and names that begin with a
 capital stay. In .rt files only the text of clauses and `ghost use` lines turns. Where a lemma would meet a definition
-or a name of the library that stands in one of its files, it gets `_law` behind it. What Rattle makes (the names behind
+or a name of the library that stands in one of its files, it gets `_law` behind it. In a comment a word with a dash turns in
+backquotes alone, and `squareRoot`, which is a standard's own name, stays. What Rattle makes (the names behind
 `c.`, `l.`, `goal.`, `tie.`, and the answers' own) stays.
 """
 
@@ -18,7 +19,7 @@ TOKEN = re.compile(r"[^\s(){}\[\],;.«»⌜⌝\"`]+")
 CAMEL = re.compile(r"^[a-z][a-z0-9']*[A-Z][A-Za-z0-9'₀-₉-]*$")
 DECLARED = re.compile(
     r"^(\s*)((?:abbrev |unfoldable |pub |data |record |ruleset |mutual )*)"
-    r"([^\s:(){};,=.λ|]+)((?:\s*[({][^:=]*?:[^:=]*?[)}])*)\s*:(?!=)"
+    r"([^\s:(){};,=.λ|]+)((?:\s*(?:\{[^}:]*\}|[({][^:=]*?:[^:=]*?[)}]))*)\s*:(?!=)"
 )
 OPEN_USE = re.compile(r"^\s*(?:pub )?(?:ghost )?use\b")
 CLAUSE = re.compile(r"^\s*(?:requires|ensures|ghost)\b")
@@ -34,6 +35,7 @@ def files():
 
 
 def snake(name):
+    name = name.replace("getD", "get_or")  # the library's word
     name = re.sub(r"([a-z0-9'])([A-Z])", lambda m: m[1] + "_" + m[2].lower(), name)
     return re.sub(r"[A-Z]", lambda m: m[0].lower(), name).replace("-", "_")
 
@@ -113,8 +115,11 @@ def main():
             word = m[0]
             if word not in table or word in made:
                 return word
+            line = text[text.rfind("\n", 0, m.start()) + 1 : m.start()]
+            prose = re.search(r"(?:^|\s)--(?:\s|$)(.*)", line)
+            if prose and (word == "squareRoot" or "-" in word) and prose[1].count("`") % 2 == 0:
+                return word
             if answers and m.start() and text[m.start() - 1] == "." and word not in fields:
-                line = text[text.rfind("\n", 0, m.start()) + 1 : m.start()]
                 if not OPEN_USE.match(line) and not re.search(r"Rattle\.[\w.+]*$", line):
                     return word
             return table[word]

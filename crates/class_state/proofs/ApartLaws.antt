@@ -15,7 +15,7 @@ use Rattle.estimate.specs.declared.Estimate.{Estimate}
 use Rattle.records.specs.Lists.{tabulate_from, tabulate, itself}
 use Rattle.records.specs.Columns.{column_profile_at}
 use Rattle.records.specs.declared.columns.ColumnProfile.{ColumnProfile}
-use Rattle.records.proofs.ListLaws.{tabulate-length, tabulate-at, tabulate-alike}
+use Rattle.records.proofs.ListLaws.{tabulate_length, tabulate_at, tabulate_alike}
 use Rattle.sheet.specs.Sheet.{Sheet, record_in, records_in, sheet_of}
 use Rattle.sheet.specs.declared.Sections.{Sections}
 use Rattle.sheet.specs.declared.order.Kind.TheVariants.{Columns}
@@ -50,10 +50,10 @@ own_next out i h o k l = go (ltb k i) (ltb-true k i) (ltb-false k i)
         subst (λ (j : ℕ). get_or (set out i i) j 0 ≡ j) (sym s) (get_or-set_same out i i 0 h)
 
 pub own_all : (out : List ℕ) (i : ℕ) → length out ≡ 128 → 128 ≤ i → Own out i → out ≡ tabulate itself column_limit
-own_all out i n h o = ext_get_or 0 out (tabulate itself 128) (n ∙ sym (tabulate-length itself 128)) (λ (k : ℕ) (l : k < length out). each k l)
+own_all out i n h o = ext_get_or 0 out (tabulate itself 128) (n ∙ sym (tabulate_length itself 128)) (λ (k : ℕ) (l : k < length out). each k l)
   where
     each : (k : ℕ) → k < length out → get_or out k 0 ≡ get_or (tabulate itself 128) k 0
-    each k l = o k (omega arith) ∙ sym (tabulate-at itself 128 k 0 (omega arith))
+    each k l = o k (omega arith) ∙ sym (tabulate_at itself 128 k 0 (omega arith))
 
 -- ---- distincts stored from the last profile to the first
 
@@ -150,7 +150,7 @@ module _ (s : List ℕ) (start : ℕ) (l : List Estimate) (d : Estimate) (rows :
   unfolding records_in
   stored_at =
       stored_from_law 0 (u16_at s start)
-      ∙ ap (λ (k : List ColumnProfile). own_or (get_or l column d) (profile_in rows column k)) (tabulate-alike (profile_at s start) (record_in Columns column_profile_at s start) (u16_at s start) (λ (i : ℕ) (k : i < u16_at s start). ap (column_profile_at s) (sym (fixed_place Columns 98 columns_fixed s start i))))
+      ∙ ap (λ (k : List ColumnProfile). own_or (get_or l column d) (profile_in rows column k)) (tabulate_alike (profile_at s start) (record_in Columns column_profile_at s start) (u16_at s start) (λ (i : ℕ) (k : i < u16_at s start). ap (column_profile_at s) (sym (fixed_place Columns 98 columns_fixed s start i))))
 
 -- ---- the state
 
@@ -181,10 +181,10 @@ module _ (s : List ℕ) (q : Sections) where
       ∙ own_either (sheet_of s q) (left_profile (sheet_of s q) column) (right_profile (sheet_of s q) column)
 
   all_distincts : all_stored ≡ tabulate (column_distinct (sheet_of s q)) column_limit
-  all_distincts = ext_get_or unknown all_stored (tabulate (column_distinct (sheet_of s q)) column_limit) (all_length ∙ sym (tabulate-length (column_distinct (sheet_of s q)) column_limit)) (λ (k : ℕ) (h : k < length all_stored). at k (subst (λ (m : ℕ). k < m) all_length h))
+  all_distincts = ext_get_or unknown all_stored (tabulate (column_distinct (sheet_of s q)) column_limit) (all_length ∙ sym (tabulate_length (column_distinct (sheet_of s q)) column_limit)) (λ (k : ℕ) (h : k < length all_stored). at k (subst (λ (m : ℕ). k < m) all_length h))
     where
       at : (k : ℕ) → k < 128 → get_or all_stored k unknown ≡ get_or (tabulate (column_distinct (sheet_of s q)) column_limit) k unknown
-      at k h = column_distinct_law k h ∙ sym (tabulate-at (column_distinct (sheet_of s q)) column_limit k unknown h)
+      at k h = column_distinct_law k h ∙ sym (tabulate_at (column_distinct (sheet_of s q)) column_limit k unknown h)
 
   pub apart_is : (roots : List ℕ) (right left : List Estimate) → roots ≡ tabulate itself column_limit → right ≡ stored s q.right_columns (replicate 128 unknown) → left ≡ stored s q.left_columns right
       → ◌≡◌ {A = EquivalenceClassState} (record { roots = roots; distincts = left }) (apart (sheet_of s q))

@@ -11,7 +11,7 @@ use Rattle.estimate.specs.Bytes.{estimate_at}
 use Rattle.estimate.specs.declared.Estimate.{Estimate}
 use Rattle.records.specs.Lists.{tabulate_from, tabulate}
 use Rattle.records.specs.Classes.{class_head_at, class_column, class_at}
-use Rattle.records.proofs.ListLaws.{tabulate-step, tabulate-end}
+use Rattle.records.proofs.ListLaws.{tabulate_step, tabulate_end}
 use Rattle.sheet.specs.Order.{record_end, record_at}
 use Rattle.sheet.specs.Sheet.{record_in, records_in}
 use Rattle.sheet.specs.declared.order.Kind.TheVariants.{Classes}
@@ -31,7 +31,7 @@ module _ (s : List ℕ) (at : ℕ) (distinct : Estimate) where
 
   united_step : (state : EquivalenceClassState) (i : ℕ) → i < u16_at s at → united_from (union state (u16_at s (at + 28)) (class_column s at i) distinct) (i + 1) ≡ united_from state i
   unfolding union_each
-  united_step state i h = ap (λ (l : List ℕ). union_each state (u16_at s (at + 28)) l distinct) (sym (tabulate-step (class_column s at) i (u16_at s at) h))
+  united_step state i h = ap (λ (l : List ℕ). union_each state (u16_at s (at + 28)) l distinct) (sym (tabulate_step (class_column s at) i (u16_at s at) h))
 
   abbrev pub UnitedRest : List ℕ → List Estimate → List ℕ → List Estimate → ℕ → Type 0
   UnitedRest roots₀ distincts₀ roots distincts i = united_from (class_state roots distincts) i ≡ united_from (class_state roots₀ distincts₀) 1
@@ -52,7 +52,7 @@ module _ (s : List ℕ) (at : ℕ) (distinct : Estimate) where
 
     pub united_all : n ≤ i → class_state roots distincts ≡ united_from (class_state roots₀ distincts₀) 1
     unfolding union_each
-    united_all h = ap (λ (l : List ℕ). union_each (class_state roots distincts) (u16_at s (at + 28)) l distinct) (sym (tabulate-end (class_column s at) i (u16_at s at) (omega arith))) ∙ rest
+    united_all h = ap (λ (l : List ℕ). union_each (class_state roots distincts) (u16_at s (at + 28)) l distinct) (sym (tabulate_end (class_column s at) i (u16_at s at) (omega arith))) ∙ rest
 
 -- ---- the whole class
 
@@ -127,7 +127,7 @@ module _ (s : List ℕ) (start : ℕ) where
 
   classes_step : (state : EquivalenceClassState) (i : ℕ) → i < u16_at s start → classes_from (with_columns state (class_at s (record_at Classes s start i)).columns (class_at s (record_at Classes s start i)).distinct) (i + 1) ≡ classes_from state i
   unfolding with_classes
-  classes_step state i h = ap (with_classes state) (sym (tabulate-step (record_in Classes class_at s start) i (u16_at s start) h))
+  classes_step state i h = ap (with_classes state) (sym (tabulate_step (record_in Classes class_at s start) i (u16_at s start) h))
 
   module _ (state₀ state : EquivalenceClassState) (i n : ℕ) (c : n ≡ u16_at s start) (rest : ClassesRest state₀ state i) where
     pub classes_next : (at : ℕ) (state' : EquivalenceClassState) → i < n → at ≡ record_at Classes s start i → state' ≡ with_columns state (class_at s at).columns (class_at s at).distinct → ClassesRest state₀ state' (i + 1)
@@ -138,4 +138,4 @@ module _ (s : List ℕ) (start : ℕ) where
 
     pub classes_all : n ≤ i → state ≡ all_classes state₀
     unfolding with_classes
-    classes_all h = ap (with_classes state) (sym (tabulate-end (record_in Classes class_at s start) i (u16_at s start) (omega arith))) ∙ rest
+    classes_all h = ap (with_classes state) (sym (tabulate_end (record_in Classes class_at s start) i (u16_at s start) (omega arith))) ∙ rest

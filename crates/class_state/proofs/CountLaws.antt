@@ -12,7 +12,7 @@ use lib.ListN.{length, get_or, set, drop, replicate, get_or-replicate, get_or-eq
 use lib.Seq.{drop-cons, get_or-set_same, get_or-set_other, ext_get_or}
 use Rattle.float.specs.Integers.{bit}
 use Rattle.records.specs.Lists.{tabulate_from, tabulate}
-use Rattle.records.proofs.ListLaws.{tabulate-length, tabulate-at}
+use Rattle.records.proofs.ListLaws.{tabulate_length, tabulate_at}
 use Rattle.selection.specs.Selected.{selected}
 use Rattle.selection.proofs.SelectedLaws.{one_selected}
 use Rattle.layout.specs.Places.{column_limit}
@@ -88,20 +88,20 @@ module _ (roots : List ℕ) where
           omega arith
 
   pub counted_all : (counts : List ℕ) (i : ℕ) → length counts ≡ 128 → 128 ≤ i → Counted counts i → counts ≡ tabulate (member_count roots) column_limit
-  counted_all counts i n h c = ext_get_or 0 counts (tabulate (member_count roots) 128) (n ∙ sym (tabulate-length (member_count roots) 128)) (λ (k : ℕ) (l : k < length counts). each k l)
+  counted_all counts i n h c = ext_get_or 0 counts (tabulate (member_count roots) 128) (n ∙ sym (tabulate_length (member_count roots) 128)) (λ (k : ℕ) (l : k < length counts). each k l)
     where
       each : (k : ℕ) → k < length counts → get_or counts k 0 ≡ get_or (tabulate (member_count roots) 128) k 0
       each k l =
           let e = c k (omega arith) in
           let z = count_end (has_root roots k) i 128 h in
-          let t = tabulate-at (member_count roots) 128 k 0 (omega arith) in
+          let t = tabulate_at (member_count roots) 128 k 0 (omega arith) in
           omega arith
 
   pub counts_length : (counts : List ℕ) → counts ≡ tabulate (member_count roots) column_limit → length counts ≡ 128
-  counts_length counts e = ap length e ∙ tabulate-length (member_count roots) 128
+  counts_length counts e = ap length e ∙ tabulate_length (member_count roots) 128
 
   pub count_at : (counts : List ℕ) (root : ℕ) → counts ≡ tabulate (member_count roots) column_limit → root < 128 → get_or counts root 0 ≡ member_count roots root
-  count_at counts root e h = ap (λ (l : List ℕ). get_or l root 0) e ∙ tabulate-at (member_count roots) 128 root 0 h
+  count_at counts root e h = ap (λ (l : List ℕ). get_or l root 0) e ∙ tabulate_at (member_count roots) 128 root 0 h
 
   -- ---- sums over the counts are sums over the returned roots
 

@@ -10,7 +10,7 @@ use lib.ListN.{length, get_or, length-set, get_or-eq_default}
 use Rattle.estimate.specs.declared.Estimate.{Estimate}
 use Rattle.records.specs.Lists.{tabulate, itself}
 use Rattle.records.specs.Classes.{ColumnEquivalenceClass, class_at}
-use Rattle.records.proofs.ListLaws.{tabulate-length, tabulate-at}
+use Rattle.records.proofs.ListLaws.{tabulate_length, tabulate_at}
 use Rattle.sheet.specs.Sheet.{Sheet, records_in, sheet_of}
 use Rattle.sheet.specs.declared.Sections.{Sections}
 use Rattle.sheet.specs.declared.order.Kind.TheVariants.{Classes}
@@ -63,11 +63,11 @@ own_rooted column = go (ltb column 128) (ltb-true column 128) (ltb-false column 
   where
     go : (t : Bool) → (t ≡ true → column < 128) → (t ≡ false → 128 ≤ column) → get_or (tabulate itself 128) column 0 < 128
     go true below past =
-        let e = tabulate-at itself 128 column 0 (below refl) in
+        let e = tabulate_at itself 128 column 0 (below refl) in
         let h = below refl in
         omega arith
     go false below past =
-        let n = tabulate-length itself 128 in
+        let n = tabulate_length itself 128 in
         let h = past refl in
         let e = get_or-eq_default (tabulate itself 128) 0 {n = column} (omega arith) in
         omega arith
@@ -107,7 +107,7 @@ overwrites_sized state first distinct n = (n.0, length-set state.distincts (find
 module _ (sheet : Sheet) where
   apart_sized : Sized (apart sheet)
   unfolding apart
-  apart_sized = (tabulate-length itself 128, tabulate-length (column_distinct sheet) 128)
+  apart_sized = (tabulate_length itself 128, tabulate_length (column_distinct sheet) 128)
 
   from_profiles_sized : Sized (from_profiles sheet)
   from_profiles_sized = profiles_keep Sized unites_sized overwrites_sized sheet apart_sized

@@ -40,8 +40,8 @@ rooted_moved from to (root ∷ roots) h rooted (suc column) = rooted_moved from 
 -- ---- one union
 
 -- a read in range does not hang on what a read past the end would give
-pub read-any {ℓ} : {A : Type ℓ} (l : List A) (i : ℕ) (d e : A) → i < length l → get_or l i d ≡ get_or l i e
-read-any l i d e h = ap (λ m. get_or m i d) (sym (set-get_or l i e)) ∙ get_or-set_same l i (get_or l i e) d h
+pub read_any {ℓ} : {A : Type ℓ} (l : List A) (i : ℕ) (d e : A) → i < length l → get_or l i d ≡ get_or l i e
+read_any l i d e h = ap (λ m. get_or m i d) (sym (set-get_or l i e)) ∙ get_or-set_same l i (get_or l i e) d h
 
 -- the roots moved and one distinct stored, of one class or of two
 pub union_step : (state : EquivalenceClassState) (left right to from : ℕ) (d distinct : Estimate)
@@ -59,7 +59,7 @@ union_step state left right to from d distinct a b h k =
     go true same = λ i. record { roots = sym (move_none from to state.roots (sym (same refl))) i; distincts = set-get_or state.distincts to d i }
     go false same = λ i. record {
       roots = map (moved from to) state.roots;
-      distincts = set state.distincts to (union_distinct (read-any state.distincts to d no_distinct h i) (read-any state.distincts from d no_distinct k i) distinct);
+      distincts = set state.distincts to (union_distinct (read_any state.distincts to d no_distinct h i) (read_any state.distincts from d no_distinct k i) distinct);
     }
 
 -- ---- what it keeps

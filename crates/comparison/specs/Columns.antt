@@ -9,7 +9,7 @@ use Rattle.sheet.specs.Sheet.{Sheet}
 use Rattle.lookup.specs.Lookup.{ProfileAndRows, Absent, Present, profile_and_rows}
 use Rattle.range.specs.Selectivity.{unit_estimate, default_estimate, non_null_fraction}
 
--- a column and itself: only a null is not equal to itself, and null_safe_law it is
+-- a column and itself: only a null is not equal to itself, and null-safe it is
 unfoldable pub self_selectivity : Bool → Float → Estimate
 unfolding unit_estimate
 self_selectivity null_safe non_null = unit_estimate (cond null_safe f64_one non_null)

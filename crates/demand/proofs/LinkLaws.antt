@@ -4,7 +4,7 @@ use mathlib.Core.Path.{◌≡◌, refl, sym, subst, ◌∙◌, ap}
 use mathlib.Core.Logic.{◌↔◌, ◌≢◌, ⊎_elim}
 use mathlib.Core.Bool.{Bool}
 use mathlib.Core.List.{List, [], ◌∷◌, ◌++◌, map, Memᴰ}
-use Rattle.records.proofs.ListLaws.{tabulate-length, tabulate-at}
+use Rattle.records.proofs.ListLaws.{tabulate_length, tabulate_at}
 use Rattle.sheet.specs.Sheet.{Sheet}
 use Rattle.records.specs.Lists.{itself}
 use Rattle.class_state.specs.State.{find, apart, with_classes, from_profiles}
@@ -12,7 +12,7 @@ use Rattle.class_state.specs.declared.EquivalenceClassState.{EquivalenceClassSta
 use Rattle.equality_pairs.specs.Pairs.{equality_pairs}
 use Rattle.equality_pairs.specs.declared.pairs.EqualityPair.{EqualityPair}
 use Rattle.equality_pairs.specs.NonNull.{non_null_marks}
-use Rattle.edge_order.proofs.SortLaws.{sort-in, in-sort}
+use Rattle.edge_order.proofs.SortLaws.{sort_in, in_sort}
 use Rattle.edge.specs.declared.EqualityEdge.{EqualityEdge}
 use Rattle.edge_fold.specs.Edges.{equality_edge, edge_of, edge_before, equality_edges}
 use Rattle.edge_fold.specs.Fold.{no_equality, folded_pairs}
@@ -50,9 +50,9 @@ chain_below join kept l n = (begins_below join kept l n, begins_below join kept 
 apart_sound : (F : Columns → Type 0) (sheet : Sheet) → Sound F (apart sheet).roots
 unfolding apart
 apart_sound F sheet = record {
-  size = tabulate-length itself 128;
-  range = λ c h. subst (λ (z : ℕ). z < 128) (sym (tabulate-at itself 128 c 0 h)) h;
-  linked = λ a b ha hb e. no_step (sym (tabulate-at itself 128 a 0 ha) ∙ e ∙ tabulate-at itself 128 b 0 hb);
+  size = tabulate_length itself 128;
+  range = λ c h. subst (λ (z : ℕ). z < 128) (sym (tabulate_at itself 128 c 0 h)) h;
+  linked = λ a b ha hb e. no_step (sym (tabulate_at itself 128 a 0 ha) ∙ e ∙ tabulate_at itself 128 b 0 hb);
 }
 
 -- ---- the unions of a whole join
@@ -93,7 +93,7 @@ module _ (join : Join) where
   edge_from p m =
       let e = mathlib.Core.List.Memᴰ.of_map ends edges m in
       let pairs = equality_pairs join.sheet join.conjuncts in
-      let r = mathlib.Core.List.Memᴰ.of_map edge_for pairs (sort-in edge_before (map edge_for pairs) e.0 e.1) in
+      let r = mathlib.Core.List.Memᴰ.of_map edge_for pairs (sort_in edge_before (map edge_for pairs) e.0 e.1) in
       (r.0, (pairs_law join r.0).0 r.1, sym (edge_ends r.0) ∙ ap ends r.2 ∙ e.2)
 
   edge_to : (first second : ℕ) (null_safe : Bool) → Equates join first second null_safe → Memᴰ (first, second) (map ends edges)
@@ -101,7 +101,7 @@ module _ (join : Join) where
   edge_to first second null_safe h =
       let pair : EqualityPair = record { left = first; right = second; null_safe = null_safe } in
       let pairs = equality_pairs join.sheet join.conjuncts in
-      subst (λ (p : Two). Memᴰ p (map ends edges)) (edge_ends pair) (mathlib.Core.List.Memᴰ.map ends (in-sort edge_before (map edge_for pairs) (edge_for pair) (mathlib.Core.List.Memᴰ.map edge_for ((pairs_law join pair).1 h))))
+      subst (λ (p : Two). Memᴰ p (map ends edges)) (edge_ends pair) (mathlib.Core.List.Memᴰ.map ends (in_sort edge_before (map edge_for pairs) (edge_for pair) (mathlib.Core.List.Memᴰ.map edge_for ((pairs_law join pair).1 h))))
 
   -- ---- a union is of two columns of a fact
 

@@ -27,7 +27,7 @@ front =
     ++ 0 ∷ 0 ∷ 0 ∷ 0 ∷ 0 ∷ 0 ∷ 0x59 ∷ 0x40 ∷ []
     ++ zeros 10
 
--- the columns 1, 2 and 3; 1 = 2 (number 3), 2 null_safe_law 3 (4), 1 = 1 (5); no operand
+-- the columns 1, 2 and 3; 1 = 2 (number 3), 2 null-safe 3 (4), 1 = 1 (5); no operand
 abbrev expressions : List ℕ
 expressions =
     6 ∷ 0 ∷ 1 ∷ 0 ∷ 1 ∷ 0 ∷ zeros 21 ++ 1 ∷ 0 ∷ 2 ∷ 0 ∷ zeros 21 ++ 1 ∷ 0 ∷ 3 ∷ 0 ∷ zeros 21
@@ -44,12 +44,12 @@ answer s = join_bytes (join_selectivity_from_conjuncts (sheet_in s) (conjuncts_i
 abbrev Says : List ℕ → List (List ℕ) → List ℕ → Type 0
 Says s bs ns = (blocks (answer s) ≡ bs) × (non_nulls (answer s) ≡ ns)
 
--- 1 = 2 and 2 null_safe_law 3: the walk goes on over the null_safe_law one
+-- 1 = 2 and 2 null-safe 3: the walk goes on over the null-safe one
 chain : Says (sheet (zeros 4) (2 ∷ 0 ∷ 3 ∷ 0 ∷ 4 ∷ 0 ∷ [])) ((1 ∷ 2 ∷ 3 ∷ []) ∷ []) (1 ∷ 2 ∷ 3 ∷ [])
 unfolding sheet_in conjuncts_in join_selectivity_from_conjuncts join_bytes blocks non_nulls field_at field_bytes of_bits le
 chain = (refl, refl)
 
--- a left class of 3 and 9, and 2 null_safe_law 3: the walk has nowhere to start
+-- a left class of 3 and 9, and 2 null-safe 3: the walk has nowhere to start
 null_safe_law : Says (sheet (1 ∷ 0 ∷ 2 ∷ 0 ∷ hundred ++ 3 ∷ 0 ∷ 9 ∷ 0 ∷ 0 ∷ 0 ∷ []) (1 ∷ 0 ∷ 4 ∷ 0 ∷ [])) ((2 ∷ 3 ∷ 9 ∷ []) ∷ []) []
 unfolding sheet_in conjuncts_in join_selectivity_from_conjuncts join_bytes blocks non_nulls field_at field_bytes of_bits le
 null_safe_law = (refl, refl)

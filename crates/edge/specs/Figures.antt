@@ -67,7 +67,7 @@ or_else_float option other = cond option.present option.number other
 abbrev pub at_least_uniform : OptionF64 → Float → Float
 at_least_uniform option uniform = cond option.present (f64_max option.number uniform) uniform
 
--- with what sketches tell of the pair and of the match; of a null_safe_law equality they are not asked
+-- with what sketches tell of the pair and of the match; of a null-safe equality they are not asked
 unfoldable pub overlap_estimate : EdgeInputs → Float → OptionF64 → OptionF64 → EqualityEdgeEstimate
 unfolding uniform_pair_selectivity uniform_non_null_match_probability
 overlap_estimate x intersection sketch_pair sketch_match =

@@ -8,7 +8,7 @@ use Rattle.sheet.specs.Sheet.{Sheet}
 use Rattle.class_state.specs.State.{equivalent, from_profiles}
 use Rattle.equality_pairs.specs.declared.pairs.EqualityPair.{EqualityPair}
 use Rattle.equality_pairs.specs.NonNull.{non_null_marks}
-use Rattle.edge_order.proofs.SortLaws.{sort-length}
+use Rattle.edge_order.proofs.SortLaws.{sort_length}
 use Rattle.edge.specs.Edge.{equality_edge_estimate}
 use Rattle.edge.specs.declared.EqualityEdge.{EqualityEdge}
 use Rattle.edge.specs.declared.LeftCoverage.{LeftCoverage}
@@ -46,6 +46,6 @@ coverage_count_law sheet pairs =
     let classes = from_profiles sheet in
     let marks = non_null_marks pairs in
     let h = edges_coverages sheet (record { classes = classes; figures = no_equality; coverages = [] }) (equality_edges classes marks pairs) in
-    let s = sort-length edge_before (map (edge_of classes marks) pairs) in
+    let s = sort_length edge_before (map (edge_of classes marks) pairs) in
     let m = length-map pairs (edge_of classes marks) in
     omega arith

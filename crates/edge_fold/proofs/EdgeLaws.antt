@@ -19,8 +19,8 @@ use Rattle.equality_pairs.specs.declared.pairs.EqualityPair.{EqualityPair}
 use Rattle.equality_pairs.specs.declared.pairs.EqualityPairs.{EqualityPairs}
 use Rattle.edge_order.specs.Sort.{sort}
 use Rattle.edge_order.specs.Order.{stands_before, number_before, edge_order}
-use Rattle.edge_order.proofs.PlaceLaws.{getD-within}
-use Rattle.edge_order.proofs.OrderLaws.{edge_order_map, map-itself}
+use Rattle.edge_order.proofs.PlaceLaws.{get_or_within}
+use Rattle.edge_order.proofs.OrderLaws.{edge_order_map, map_itself}
 use Rattle.edge.specs.declared.EqualityEdge.{EqualityEdge}
 use Rattle.edge_fold.specs.Edges.{equality_edge, edge_of, edge_before, equality_edges}
 
@@ -40,7 +40,7 @@ module _ (classes : EquivalenceClassState) (marks : List Bool) (pairs : Equality
   unfolding edge_at edge_of
   edge_made edge d e pair a b p at bt ah bh is =
       is
-      ∙ (λ k. equality_edge marks pair (getD-within classes.distincts a d no_distinct ah k) (getD-within classes.distincts b e no_distinct bh k))
+      ∙ (λ k. equality_edge marks pair (get_or_within classes.distincts a d no_distinct ah k) (get_or_within classes.distincts b e no_distinct bh k))
       ∙ (λ k. equality_edge marks pair (get_or classes.distincts (at k) no_distinct) (get_or classes.distincts (bt k) no_distinct))
       ∙ ap (edge_of classes marks) p
 
@@ -88,7 +88,7 @@ unfolding edge_at number_before equality_edges
 edges_in_order classes marks pairs distincts kinds order e held =
     ap (map edge) e
     ∙ edge_order_map distincts kinds pairs.count edge edge_before (λ (i j : ℕ) (h : i < pairs.count) (g : j < pairs.count). λ k. stands_before ((held.at i h).0 k) ((held.at i h).1 k) ((held.at j g).0 k) ((held.at j g).1 k))
-    ∙ ap (sort edge_before) (sym (map-map (edge_of classes marks) (pair_at pairs) (tabulate itself pairs.count)) ∙ ap (map (edge_of classes marks)) (map-itself (pair_at pairs) pairs.count))
+    ∙ ap (sort edge_before) (sym (map-map (edge_of classes marks) (pair_at pairs) (tabulate itself pairs.count)) ∙ ap (map (edge_of classes marks)) (map_itself (pair_at pairs) pairs.count))
   where
     edge : ℕ → EqualityEdge
     edge = edge_at classes marks pairs

@@ -9,7 +9,7 @@ use lib.Seq.{take_all, take-append-le, take-take, drop_at, length-take-le}
 use lib.Ieee.{Float, lt, eq}
 use Rattle.layout.specs.Places.{conjunct_limit}
 use Rattle.records.specs.Lists.{tabulate_from, tabulate, itself}
-use Rattle.records.proofs.ListLaws.{tabulate-in, tabulate-step, tabulate-end}
+use Rattle.records.proofs.ListLaws.{tabulate_in, tabulate_step, tabulate_end}
 use Rattle.edge_order.specs.Sort.{insert, sort}
 use Rattle.edge_order.specs.Order.{stands_before, number_before, edge_order}
 use Rattle.edge_order.proofs.SortLaws.{sort_map_within}
@@ -44,7 +44,7 @@ module _ (before : ℕ → ℕ → Bool) (n : ℕ) where
   order_first order h k =
       sym (append-nil order)
       ∙ ap (λ (l : List ℕ). l ++ []) (sym (take_all (conjunct_limit - n + n) order (omega arith)))
-      ∙ ap (λ (l : List ℕ). take (conjunct_limit - n + n) order ++ sort before l) (sym (tabulate-end itself n n (omega arith)))
+      ∙ ap (λ (l : List ℕ). take (conjunct_limit - n + n) order ++ sort before l) (sym (tabulate_end itself n n (omega arith)))
 
   -- one more number in front
   pub order_next : (k : ℕ) (order next start : List ℕ) → length start ≡ conjunct_limit → n ≤ conjunct_limit → 1 ≤ k → k ≤ n → order ≡ ordered_from start k
@@ -56,7 +56,7 @@ module _ (before : ℕ → ℕ → Bool) (n : ℕ) where
       ∙ ap (λ (r : List ℕ). r ++ insert before (k - 1) (drop (conjunct_limit - n + (k - 1) + 1) order)) front
       ∙ ap (λ (r : List ℕ). take (conjunct_limit - n + (k - 1)) start ++ r)
       (ap (insert before (k - 1)) (go (conjunct_limit - n + (k - 1) + 1) (k - 1 + 1) (omega arith) (omega arith))
-      ∙ ap (sort before) (sym (tabulate-step itself (k - 1) n (omega arith))))
+      ∙ ap (sort before) (sym (tabulate_step itself (k - 1) n (omega arith))))
     where
       held : length (take (conjunct_limit - n + k) start) ≡ conjunct_limit - n + k
       held = length-take-le (conjunct_limit - n + k) start (omega arith)
@@ -87,16 +87,16 @@ module _ (distincts : List Float) (null_safes : List Bool) (n : ℕ) where
     where
       below : (i : ℕ) → Memᴰ i (tabulate itself n) → i < n
       below i m =
-          let r = tabulate-in itself n i m in
+          let r = tabulate_in itself n i m in
           less r.0 r.1 r.2
         where
           less : (j : ℕ) → j < n → i ≡ j → i < n
           less j h e = omega arith
 
-map-from {ℓ} : {A : Type ℓ} (f : ℕ → A) (i n : ℕ) → map f (tabulate_from itself i n) ≡ tabulate_from f i n
+map_from {ℓ} : {A : Type ℓ} (f : ℕ → A) (i n : ℕ) → map f (tabulate_from itself i n) ≡ tabulate_from f i n
 unfolding tabulate_from
-map-from f i zero = refl
-map-from {A = A} f i (suc n) = ap (λ (l : List A). f i ∷ l) (map-from f (i + 1) n)
+map_from f i zero = refl
+map_from {A = A} f i (suc n) = ap (λ (l : List A). f i ∷ l) (map_from f (i + 1) n)
 
-pub map-itself {ℓ} : {A : Type ℓ} (f : ℕ → A) (n : ℕ) → map f (tabulate itself n) ≡ tabulate f n
-map-itself f n = map-from f 0 n
+pub map_itself {ℓ} : {A : Type ℓ} (f : ℕ → A) (n : ℕ) → map f (tabulate itself n) ≡ tabulate f n
+map_itself f n = map_from f 0 n

@@ -10,13 +10,13 @@ use lib.Seq.{take-suc-set, drop-set-lt, drop-cons, set_split}
 use Rattle.edge_order.specs.Sort.{insert}
 
 -- within a list, what stands for a missing element does not matter
-pub getD-within {ℓ} : {A : Type ℓ} (l : List A) (i : ℕ) (d e : A) → i < length l → get_or l i d ≡ get_or l i e
-getD-within [] i d e h = absurd (none i h)
+pub get_or_within {ℓ} : {A : Type ℓ} (l : List A) (i : ℕ) (d e : A) → i < length l → get_or l i d ≡ get_or l i e
+get_or_within [] i d e h = absurd (none i h)
   where
     none : (i : ℕ) → i < 0 → ⊥
     none i h = omega arith
-getD-within (x ∷ l) zero d e h = refl
-getD-within (x ∷ l) (suc i) d e h = getD-within l i d e (less i (length l) h)
+get_or_within (x ∷ l) zero d e h = refl
+get_or_within (x ∷ l) (suc i) d e h = get_or_within l i d e (less i (length l) h)
   where
     less : (i n : ℕ) → suc i < suc n → i < n
     less i n h = omega arith

@@ -25,36 +25,36 @@ perm_in {a} (Permᴰ.swap {a = x} {b = y} {l = l} e f) h =
     (Memᴰ.cases_cons h)
 perm_in (Permᴰ.trans p q) h = perm_in q (perm_in p h)
 
-pub perm-length {ℓ} : {A : Type ℓ} {l m : List A} → Permᴰ l m → length l ≡ length m
-perm-length Permᴰ.nil = refl
-perm-length (Permᴰ.cons e p) = ap suc (perm-length p)
-perm-length (Permᴰ.swap e f) = refl
-perm-length (Permᴰ.trans p q) = perm-length p ∙ perm-length q
+pub perm_length {ℓ} : {A : Type ℓ} {l m : List A} → Permᴰ l m → length l ≡ length m
+perm_length Permᴰ.nil = refl
+perm_length (Permᴰ.cons e p) = ap suc (perm_length p)
+perm_length (Permᴰ.swap e f) = refl
+perm_length (Permᴰ.trans p q) = perm_length p ∙ perm_length q
 
 -- ---- a sort reorders
 
-insert-perm {ℓ} : {A : Type ℓ} (before : A → A → Bool) (x : A) (l : List A) → Permᴰ (insert before x l) (x ∷ l)
+insert_perm {ℓ} : {A : Type ℓ} (before : A → A → Bool) (x : A) (l : List A) → Permᴰ (insert before x l) (x ∷ l)
 unfolding insert
-insert-perm before x [] = Permᴰ.refl (x ∷ [])
-insert-perm before x (y ∷ ys) = go (before y x) (insert-perm before x ys)
+insert_perm before x [] = Permᴰ.refl (x ∷ [])
+insert_perm before x (y ∷ ys) = go (before y x) (insert_perm before x ys)
   where
     go : (t : Bool) → Permᴰ (insert before x ys) (x ∷ ys) → Permᴰ (cond t (y ∷ insert before x ys) (x ∷ y ∷ ys)) (x ∷ y ∷ ys)
     go true h = Permᴰ.trans (Permᴰ.cons refl h) (Permᴰ.swap refl refl)
     go false h = Permᴰ.refl (x ∷ y ∷ ys)
 
-pub sort-perm {ℓ} : {A : Type ℓ} (before : A → A → Bool) (l : List A) → Permᴰ (sort before l) l
+pub sort_perm {ℓ} : {A : Type ℓ} (before : A → A → Bool) (l : List A) → Permᴰ (sort before l) l
 unfolding sort
-sort-perm before [] = Permᴰ.nil
-sort-perm before (x ∷ xs) = Permᴰ.trans (insert-perm before x (sort before xs)) (Permᴰ.cons refl (sort-perm before xs))
+sort_perm before [] = Permᴰ.nil
+sort_perm before (x ∷ xs) = Permᴰ.trans (insert_perm before x (sort before xs)) (Permᴰ.cons refl (sort_perm before xs))
 
-pub sort-in {ℓ} : {A : Type ℓ} (before : A → A → Bool) (l : List A) (a : A) → Memᴰ a (sort before l) → Memᴰ a l
-sort-in before l a h = perm_in (sort-perm before l) h
+pub sort_in {ℓ} : {A : Type ℓ} (before : A → A → Bool) (l : List A) (a : A) → Memᴰ a (sort before l) → Memᴰ a l
+sort_in before l a h = perm_in (sort_perm before l) h
 
-pub in-sort {ℓ} : {A : Type ℓ} (before : A → A → Bool) (l : List A) (a : A) → Memᴰ a l → Memᴰ a (sort before l)
-in-sort before l a h = perm_in (Permᴰ.symm (sort-perm before l)) h
+pub in_sort {ℓ} : {A : Type ℓ} (before : A → A → Bool) (l : List A) (a : A) → Memᴰ a l → Memᴰ a (sort before l)
+in_sort before l a h = perm_in (Permᴰ.symm (sort_perm before l)) h
 
-pub sort-length {ℓ} : {A : Type ℓ} (before : A → A → Bool) (l : List A) → length (sort before l) ≡ length l
-sort-length before l = perm-length (sort-perm before l)
+pub sort_length {ℓ} : {A : Type ℓ} (before : A → A → Bool) (l : List A) → length (sort before l) ≡ length l
+sort_length before l = perm_length (sort_perm before l)
 
 -- ---- a sort goes by the test, of members of the list alone
 
@@ -72,7 +72,7 @@ module _ {ℓ} {A B : Type ℓ} (f : A → B) (b1 : A → A → Bool) (b2 : B �
   unfolding sort
   sort_map_within [] h = refl
   sort_map_within (x ∷ xs) h =
-      insert_map x (sort b1 xs) (λ (y : A) (m : Memᴰ y (sort b1 xs)). h y x (Memᴰ.tail (sort-in b1 xs y m)) (Memᴰ.head refl))
+      insert_map x (sort b1 xs) (λ (y : A) (m : Memᴰ y (sort b1 xs)). h y x (Memᴰ.tail (sort_in b1 xs y m)) (Memᴰ.head refl))
       ∙ ap (insert b2 (f x)) (sort_map_within xs (λ (y z : A) (m : Memᴰ y xs) (n : Memᴰ z xs). h y z (Memᴰ.tail m) (Memᴰ.tail n)))
 
 module _ {ℓ} {A : Type ℓ} (b1 b2 : A → A → Bool) where
@@ -85,5 +85,5 @@ module _ {ℓ} {A : Type ℓ} (b1 b2 : A → A → Bool) where
   unfolding sort
   sort_cong [] h = refl
   sort_cong (x ∷ xs) h =
-      insert_cong x (sort b1 xs) (λ (y : A) (m : Memᴰ y (sort b1 xs)). h y x (Memᴰ.tail (sort-in b1 xs y m)) (Memᴰ.head refl))
+      insert_cong x (sort b1 xs) (λ (y : A) (m : Memᴰ y (sort b1 xs)). h y x (Memᴰ.tail (sort_in b1 xs y m)) (Memᴰ.head refl))
       ∙ ap (insert b2 x) (sort_cong xs (λ (y z : A) (m : Memᴰ y xs) (n : Memᴰ z xs). h y z (Memᴰ.tail m) (Memᴰ.tail n)))

@@ -1,4 +1,4 @@
--- Worked orders: falling distincts, an ordinary edge before a null_safe_law one, and equal edges as they came. Assumes nothing.
+-- Worked orders: falling distincts, an ordinary edge before a null-safe one, and equal edges as they came. Assumes nothing.
 use Rattle.std.specs.Prelude.{◌≡◌, refl, true, false, [], ◌∷◌, pos, Float}
 use Rattle.std.specs.Float.{fin}
 use Rattle.std.specs.Float.Ieee.{lt, eq}

@@ -10,7 +10,7 @@ use lib.Dec.{eqb}
 use lib.ListN.{length, set, length-set}
 use lib.Seq.{set-get_or}
 use Rattle.records.specs.Lists.{tabulate_from}
-use Rattle.records.proofs.ListLaws.{tabulate-step, tabulate-end}
+use Rattle.records.proofs.ListLaws.{tabulate_step, tabulate_end}
 use Rattle.equality_pairs.specs.Pairs.{pair_at, pairs_in}
 use Rattle.equality_pairs.specs.declared.pairs.EqualityPair.{EqualityPair}
 use Rattle.equality_pairs.specs.declared.pairs.EqualityPairs.{EqualityPairs}
@@ -69,19 +69,19 @@ module _ (pairs : EqualityPairs) where
   module _ (marks : List Bool) (i : ℕ) where
     pub ordinary_end : pairs.count ≤ i → marks ≡ with_ordinary marks (rest_from i)
     unfolding with_ordinary
-    ordinary_end h = ap (with_ordinary marks) (sym (tabulate-end (pair_at pairs) i pairs.count h))
+    ordinary_end h = ap (with_ordinary marks) (sym (tabulate_end (pair_at pairs) i pairs.count h))
 
     pub pass_end : pairs.count ≤ i → marks ≡ pass marks (rest_from i)
     unfolding pass
-    pass_end h = ap (pass marks) (sym (tabulate-end (pair_at pairs) i pairs.count h))
+    pass_end h = ap (pass marks) (sym (tabulate_end (pair_at pairs) i pairs.count h))
 
     pub extends_end : (changed : Bool) → pairs.count ≤ i → changed ≡ (pass_extends marks (rest_from i) || changed)
     unfolding pass_extends
-    extends_end changed h = ap (λ (l : List EqualityPair). pass_extends marks l || changed) (sym (tabulate-end (pair_at pairs) i pairs.count h))
+    extends_end changed h = ap (λ (l : List EqualityPair). pass_extends marks l || changed) (sym (tabulate_end (pair_at pairs) i pairs.count h))
 
     module _ (pair : EqualityPair) (out : List Bool) (h : i < pairs.count) (is : pair ≡ pair_at pairs i) where
       next : pair ∷ rest_from (i + 1) ≡ rest_from i
-      next = ap (λ (p : EqualityPair). p ∷ rest_from (i + 1)) is ∙ sym (tabulate-step (pair_at pairs) i pairs.count h)
+      next = ap (λ (p : EqualityPair). p ∷ rest_from (i + 1)) is ∙ sym (tabulate_step (pair_at pairs) i pairs.count h)
 
       pub ordinary_next : out ≡ cond pair.null_safe marks (with_both marks pair) → with_ordinary out (rest_from (i + 1)) ≡ with_ordinary marks (rest_from i)
       unfolding with_ordinary

@@ -40,9 +40,9 @@ pairs_length sheet (e ∷ es) =
 
 -- ---- where they stand
 
-sets-append {ℓ} : {A : Type ℓ} (l : List A) (n : ℕ) (xs ys : List A) → sets l n (xs ++ ys) ≡ sets (sets l n xs) (n + length xs) ys
-sets-append l n [] ys = ap (λ (k : ℕ). sets l k ys) (sym (add-zero n))
-sets-append l n (x ∷ xs) ys = sets-append (set l n x) (suc n) xs ys ∙ ap (λ (k : ℕ). sets (sets (set l n x) (suc n) xs) k ys) (over n (length xs))
+sets_append {ℓ} : {A : Type ℓ} (l : List A) (n : ℕ) (xs ys : List A) → sets l n (xs ++ ys) ≡ sets (sets l n xs) (n + length xs) ys
+sets_append l n [] ys = ap (λ (k : ℕ). sets l k ys) (sym (add-zero n))
+sets_append l n (x ∷ xs) ys = sets_append (set l n x) (suc n) xs ys ∙ ap (λ (k : ℕ). sets (sets (set l n x) (suc n) xs) k ys) (over n (length xs))
   where
     over : (n m : ℕ) → suc n + m ≡ n + suc m
     over n m = omega arith
@@ -50,19 +50,19 @@ sets-append l n (x ∷ xs) ys = sets-append (set l n x) (suc n) xs ys ∙ ap (λ
 -- ---- the places
 
 -- within a list, what stands for a missing element does not matter
-getD-within {ℓ} : {A : Type ℓ} (l : List A) (i : ℕ) (d e : A) → i < length l → get_or l i d ≡ get_or l i e
-getD-within [] i d e h = absurd (none i h)
+get_or_within {ℓ} : {A : Type ℓ} (l : List A) (i : ℕ) (d e : A) → i < length l → get_or l i d ≡ get_or l i e
+get_or_within [] i d e h = absurd (none i h)
   where
     none : (i : ℕ) → i < 0 → ⊥
     none i h = omega arith
-getD-within (x ∷ l) zero d e h = refl
-getD-within (x ∷ l) (suc i) d e h = getD-within l i d e (less i (length l) h)
+get_or_within (x ∷ l) zero d e h = refl
+get_or_within (x ∷ l) (suc i) d e h = get_or_within l i d e (less i (length l) h)
   where
     less : (i n : ℕ) → suc i < suc n → i < n
     less i n h = omega arith
 
 pub pair_read : (pairs : EqualityPairs) (held : List EqualityPair) (i : ℕ) (d : EqualityPair) → held ≡ pairs.pairs → i < length held → get_or held i d ≡ pair_at pairs i
-pair_read pairs held i d e h = getD-within held i d no_pair h ∙ ap (λ (l : List EqualityPair). get_or l i no_pair) e
+pair_read pairs held i d e h = get_or_within held i d no_pair h ∙ ap (λ (l : List EqualityPair). get_or l i no_pair) e
 
 -- pairs that stand in the first places are those that are read there
 pairs_from : (pairs done behind : List EqualityPair) (n : ℕ) → tabulate_from (pair_at (record { pairs = done ++ (pairs ++ behind); count = n })) (length done) (length pairs) ≡ pairs
@@ -81,10 +81,10 @@ pairs_held pairs = pairs_from pairs [] (replicate (conjunct_limit - length pairs
 
 -- ---- one conjunct
 
-getD-blank {ℓ} : {A : Type ℓ} (n k : ℕ) (a : A) → get_or (replicate n a) k a ≡ a
-getD-blank zero k a = refl
-getD-blank (suc n) zero a = refl
-getD-blank (suc n) (suc k) a = getD-blank n k a
+get_or_blank {ℓ} : {A : Type ℓ} (n k : ℕ) (a : A) → get_or (replicate n a) k a ≡ a
+get_or_blank zero k a = refl
+get_or_blank (suc n) zero a = refl
+get_or_blank (suc n) (suc k) a = get_or_blank n k a
 
 drop_replicate {ℓ} : {A : Type ℓ} (k n : ℕ) (a : A) → drop k (replicate n a) ≡ replicate (n - k) a
 drop_replicate zero n a = ap (λ (m : ℕ). replicate m a) (none n)
@@ -105,7 +105,7 @@ abbrev pub Blank : List EqualityPair → ℕ → Type 0
 Blank l n = (k : ℕ) → n ≤ k → get_or l k no_pair ≡ no_pair
 
 pub blank_first : Blank (replicate conjunct_limit no_pair) 0
-blank_first k h = getD-blank conjunct_limit k no_pair
+blank_first k h = get_or_blank conjunct_limit k no_pair
 
 module _ (sheet : Sheet) (e : ℕ) (equality : ColumnEquality) (is : equality ≡ column_equality sheet e) where
   pub count_one : pair_count equality ≡ length (equality_pair sheet e)
@@ -163,7 +163,7 @@ module _ (sheet : Sheet) (es : List ℕ) where
   pub stored_next : (start l next : List EqualityPair) (n m i : ℕ) → i < length es → m ≡ n + length (equality_pair sheet (get_or es i 0)) → next ≡ sets l n (equality_pair sheet (get_or es i 0)) → StoredRest start l n i → StoredRest start next m (i + 1)
   stored_next start l next n m i h e is rest =
       (λ k. sets (is k) (e k) (equality_pairs sheet (drop (i + 1) es)))
-      ∙ sym (sets-append l n (equality_pair sheet (get_or es i 0)) (equality_pairs sheet (drop (i + 1) es)))
+      ∙ sym (sets_append l n (equality_pair sheet (get_or es i 0)) (equality_pairs sheet (drop (i + 1) es)))
       ∙ ap (sets l n) (sym (pairs_step i h))
       ∙ rest
 

@@ -32,8 +32,8 @@ pub fn join(sheet: &[u8], out: &mut [u8]) -> Answer
     answer_join(sheet, out)
 }
 
-// For programs in other languages. A slice passes as a pointer and a length, and `out` must share no
-// byte with the sheet.
+// The answers as one number, a length or 2^32 and the refusal's. The crate estimates_c exports these to
+// other languages: a slice passes as a pointer and a length, and `out` must share no byte with the sheet.
 #[unsafe(no_mangle)]
 pub extern "C" fn estimates_predicate(sheet: &[u8], expression: u16, out: &mut [u8]) -> u64
     ensures value { result ≡ answer_number (answered (predicate_result sheet.now expression) out.old) }

@@ -12,7 +12,7 @@ use Rattle.le.specs.Fields.{onto}
 use Rattle.layout.specs.Places.{column_limit, conjunct_limit}
 use Rattle.estimate.specs.declared.Estimate.{Estimate}
 use Rattle.records.specs.Lists.{tabulate, itself}
-use Rattle.records.proofs.ListLaws.{tabulate-in}
+use Rattle.records.proofs.ListLaws.{tabulate_in}
 use Rattle.sheet.specs.Sheet.{Sheet}
 use Rattle.class_state.specs.State.{Rooted, equivalent, moved, united, union, from_profiles}
 use Rattle.class_state.specs.declared.EquivalenceClassState.{EquivalenceClassState}
@@ -25,7 +25,7 @@ use Rattle.equality_pairs.specs.NonNull.{non_null_marks}
 use Rattle.edge.specs.declared.EqualityEdge.{EqualityEdge}
 use Rattle.edge.specs.declared.LeftEqualityCoverage.{LeftEqualityCoverage}
 use Rattle.edge_order.specs.Order.{number_before, edge_order}
-use Rattle.edge_order.proofs.SortLaws.{sort-in}
+use Rattle.edge_order.proofs.SortLaws.{sort_in}
 use Rattle.edge_fold.specs.Edges.{equality_edge, equality_edges}
 use Rattle.edge_fold.specs.Fold.{Folded, no_equality, with_edges, folded_pairs}
 use Rattle.edge_fold.specs.Coverages.{coverages_bytes}
@@ -179,7 +179,7 @@ order_placed n distincts kinds before order h b e = subst Placed (sym e) (placed
   where
     within : (x : ℕ) → Memᴰ x (edge_order distincts kinds n) → x < conjunct_limit
     within x m =
-        let r = tabulate-in itself n x (sort-in (number_before distincts kinds) (tabulate itself n) x m) in
+        let r = tabulate_in itself n x (sort_in (number_before distincts kinds) (tabulate itself n) x m) in
         less r.0 r.1 r.2
       where
         less : (j : ℕ) → j < n → x ≡ j → x < conjunct_limit

@@ -5,7 +5,7 @@ use Rattle.lawful.specs.Lawful.{Each}
 use Rattle.class_state.specs.State.{find, class_distinct}
 use Rattle.class_state.specs.declared.EquivalenceClassState.{EquivalenceClassState}
 use Rattle.equality_pairs.specs.declared.pairs.EqualityPair.{EqualityPair}
-use Rattle.edge_order.proofs.SortLaws.{sort-in}
+use Rattle.edge_order.proofs.SortLaws.{sort_in}
 use Rattle.edge_fold.specs.Edges.{equality_edge, edge_of, edge_before, equality_edges}
 use Rattle.join_range.specs.Range.{EdgeInRange}
 use Rattle.join_range.proofs.EachLaws.{each_map}
@@ -21,4 +21,4 @@ module _ (classes : EquivalenceClassState) (s : LawfulState classes) where
 
   pub edges_range : (marks : List Bool) (pairs : List EqualityPair) → Each EdgeInRange (equality_edges classes marks pairs)
   unfolding equality_edges
-  edges_range marks pairs x m = each_map EdgeInRange (edge_of classes marks) (edge_range marks) pairs x (sort-in edge_before (map (edge_of classes marks) pairs) x m)
+  edges_range marks pairs x m = each_map EdgeInRange (edge_of classes marks) (edge_range marks) pairs x (sort_in edge_before (map (edge_of classes marks) pairs) x m)

@@ -4,7 +4,7 @@ use native.Mathlib.Nat.{sub-zero}
 use Rattle.le.specs.Fields.{u16_at}
 use Rattle.layout.specs.Places.{count_size}
 use Rattle.records.specs.Lists.{tabulate_from}
-use Rattle.records.proofs.ListLaws.{tabulate-step, tabulate-end}
+use Rattle.records.proofs.ListLaws.{tabulate_step, tabulate_end}
 use Rattle.sheet.specs.Sheet.{record_in, records_in}
 use Rattle.sheet.specs.declared.order.Kind.{Kind}
 use Rattle.sheet.proofs.PlaceLaws.{Fixed, fixed_place}
@@ -23,7 +23,7 @@ module _ {A B : Type 0} (g : List A → B) (kind : Kind) (read : List ℕ → �
   rest_first = rw (sub-zero (u16_at s start)) refl
 
   pub rest_none : (i : ℕ) → u16_at s start ≤ i → Rest i → g [] ≡ g (records_in kind read s start)
-  rest_none i h rest = ap g (sym (tabulate-end (record_in kind read s start) i (u16_at s start) h)) ∙ rest
+  rest_none i h rest = ap g (sym (tabulate_end (record_in kind read s start) i (u16_at s start) h)) ∙ rest
 
   -- of records that are w bytes long, where g gives `found` of the first that passes
   module _ (w : ℕ) (fixed : Fixed kind w) (passes : A → Bool) (found : A → B) (more : (x : A) (xs : List A) → cond (passes x) (found x) (g xs) ≡ g (x ∷ xs)) where
@@ -33,7 +33,7 @@ module _ {A B : Type 0} (g : List A → B) (kind : Kind) (read : List ℕ → �
         ap (λ (t : Bool). cond t (found x) (g (left (i + 1)))) (sym e)
         ∙ more x (left (i + 1))
         ∙ ap (λ (at : ℕ). g (read s at ∷ left (i + 1))) (sym (fixed_place kind w fixed s start i))
-        ∙ ap g (sym (tabulate-step (record_in kind read s start) i (u16_at s start) h))
+        ∙ ap g (sym (tabulate_step (record_in kind read s start) i (u16_at s start) h))
         ∙ rest
 
     pub rest_next : (i : ℕ) → i < u16_at s start → passes (read s (start + count_size + w * i)) ≡ false → Rest i → Rest (i + 1)

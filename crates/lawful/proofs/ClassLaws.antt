@@ -12,7 +12,7 @@ use Rattle.layout.specs.Places.{column_limit, class_least, class_most, class_dis
 use Rattle.layout.proofs.LayoutLaws.{Kept, record_kept}
 use Rattle.estimate.proofs.EstimateLaws.{accepted_lawful}
 use Rattle.records.specs.Classes.{class_column, class_at}
-use Rattle.records.proofs.ListLaws.{tabulate-length}
+use Rattle.records.proofs.ListLaws.{tabulate_length}
 use Rattle.record_rules.specs.Classes.{class_head_fields, class_head_refusal, class_refusal}
 use Rattle.record_rules.proofs.RoomLaws.{class_columns_below}
 use Rattle.lawful.specs.Lawful.{LawfulClass}
@@ -36,7 +36,7 @@ module _ (s : List ℕ) (at : ℕ) (kept : class_refusal s at ≡ 0) where
   pub class_lawful : LawfulClass (class_at s at)
   unfolding class_at
   class_lawful =
-      let length-is = sym (tabulate-length (class_column s at) n) in
+      let length-is = sym (tabulate_length (class_column s at) n) in
       record {
         distinct = accepted_lawful s (at + class_distinct_offset) fields.1.0;
         columns = each_tabulate (λ (c : ℕ). c < column_limit) (class_column s at) n (class_columns_below s at kept);

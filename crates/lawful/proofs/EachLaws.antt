@@ -7,7 +7,7 @@ use native.Mathlib.Nat.{not-suc-le-zero, le_of_suc-le-suc}
 use lib.ListN.{length, get_or}
 use Rattle.le.specs.Fields.{u16_at}
 use Rattle.records.specs.Lists.{tabulate}
-use Rattle.records.proofs.ListLaws.{tabulate-in}
+use Rattle.records.proofs.ListLaws.{tabulate_in}
 use Rattle.sheet.specs.Order.{record_at}
 use Rattle.sheet.specs.Sheet.{record_in, records_in}
 use Rattle.sheet.specs.declared.order.Kind.{Kind}
@@ -17,7 +17,7 @@ module _ {A : Type 0} (P : A → Type 0) where
   -- of a list by its members' places
   pub each_tabulate : (f : ℕ → A) (n : ℕ) → ((i : ℕ) → i < n → P (f i)) → Each P (tabulate f n)
   each_tabulate f n h x m =
-      let r = tabulate-in f n x m in
+      let r = tabulate_in f n x m in
       subst P (sym r.2) (h r.0 r.1)
 
   -- of a section's records

@@ -15,7 +15,7 @@ use Rattle.layout.proofs.LayoutLaws.{Kept, record_kept}
 use Rattle.scalar_bytes.specs.Reading.{scalar_refusal}
 use Rattle.scalar_bytes.specs.declared.reads.ScalarPlace.TheVariants.{Sketch}
 use Rattle.records.specs.Sketches.{sketch_item_at, sketch_item, sketch_at}
-use Rattle.records.proofs.ListLaws.{tabulate-length}
+use Rattle.records.proofs.ListLaws.{tabulate_length}
 use Rattle.record_rules.specs.Fields.{count_lawful}
 use Rattle.sketch_rules.specs.Lawful.{LawfulItem}
 use Rattle.sketch_rules.specs.Sketches.{item_fields, item_refusal, sketch_head_fields, sketch_head_refusal, sketch_refusal}
@@ -63,5 +63,5 @@ module _ (s : List ℕ) (items at : ℕ) (kept : sketch_refusal s items at ≡ 0
   sketch_lawful b = record {
     population = count_lawful_law (u64_at s at) fields.0;
     items = each_tabulate LawfulItem (sketch_item s at) n (λ j l. item_lawful s (at + sketch_head_size) j b (each j l));
-    count = subst (λ (l : ℕ). l ≤ item_limit) (sym (tabulate-length (sketch_item s at) n)) count;
+    count = subst (λ (l : ℕ). l ≤ item_limit) (sym (tabulate_length (sketch_item s at) n)) count;
   }

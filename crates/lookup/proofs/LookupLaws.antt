@@ -17,7 +17,7 @@ use Rattle.records.specs.Columns.{column_profile_at}
 use Rattle.records.specs.Expressions.{unary_op, binary_op, nary_op, expression_at}
 use Rattle.records.specs.declared.expressions.Expression.{Expression}
 use Rattle.records.specs.declared.expressions.Expression.TheVariants.{Literal, ColumnRef, Unary, Binary, Nary, Like, Other}
-use Rattle.records.proofs.ListLaws.{tabulate-alike}
+use Rattle.records.proofs.ListLaws.{tabulate_alike}
 use Rattle.expression_rules.specs.Operands.{expression_place}
 use Rattle.sheet.specs.Sheet.{record_in, records_in, sheet_of}
 use Rattle.sheet.specs.declared.Sections.{Sections}
@@ -88,7 +88,7 @@ operands_from s q first count =
     let start = q.operands in
     let n = u16_at s start in
     let f = operand_in s start in
-    ap (λ (l : List ℕ). take count (drop first l)) (tabulate-alike (record_in Operands u16_at s start) f n (λ i l. ap (u16_at s) (fixed_place Operands number_size operands_fixed s start i)))
+    ap (λ (l : List ℕ). take count (drop first l)) (tabulate_alike (record_in Operands u16_at s start) f n (λ i l. ap (u16_at s) (fixed_place Operands number_size operands_fixed s start i)))
     ∙ ap (take count) (drop_from f 0 n first)
     ∙ take_from f (0 + first) (n - first) count
     ∙ ap (λ (i : ℕ). tabulate_from f i (min count (n - first))) (zero-add first)

@@ -10,7 +10,7 @@ use lib.ListN.{length, get_or, set, replicate, get_or-replicate}
 use lib.Seq.{get_or-set_same, get_or-set_other, set_out, ext_get_or}
 use Rattle.le.specs.Fields.{u16_at}
 use Rattle.layout.specs.Places.{column_limit, count_size, column_size}
-use Rattle.records.proofs.ListLaws.{tabulate-length, tabulate-at}
+use Rattle.records.proofs.ListLaws.{tabulate_length, tabulate_at}
 use Rattle.scan.specs.Scan.{place_from}
 use Rattle.lookup.specs.Lookup.{column_place, column_places}
 
@@ -57,7 +57,7 @@ module _ (s : List ℕ) (start : ℕ) where
   noted_past places n i column l h k is past noted = subst (λ (p : List ℕ). Noted p n (i - 1)) (set_out places column (here (i - 1)) past) (noted_next places n i column l h k is noted)
 
   pub noted_all : (places : List ℕ) (n i : ℕ) → length places ≡ column_limit → i ≤ 0 → n ≡ u16_at s start → Noted places n i → places ≡ column_places s start
-  noted_all places n i l h e noted = ext_get_or 0 places (column_places s start) (l ∙ sym (tabulate-length (column_place s start) column_limit)) (λ (k : ℕ) (b : k < length places). each k (subst (λ (m : ℕ). k < m) l b))
+  noted_all places n i l h e noted = ext_get_or 0 places (column_places s start) (l ∙ sym (tabulate_length (column_place s start) column_limit)) (λ (k : ℕ) (b : k < length places). each k (subst (λ (m : ℕ). k < m) l b))
     where
       at_start : (a i : ℕ) → i ≤ 0 → a + column_size * i ≡ a
       at_start a i h = omega arith
@@ -66,7 +66,7 @@ module _ (s : List ℕ) (start : ℕ) where
       rest n i m h e = omega arith
 
       each : (k : ℕ) → k < column_limit → get_or places k 0 ≡ get_or (column_places s start) k 0
-      each k b = noted k b ∙ (λ j. place_from s column_size k (at_start (start + count_size) i h j) (rest n i (u16_at s start) h e j)) ∙ sym (tabulate-at (column_place s start) column_limit k 0 b)
+      each k b = noted k b ∙ (λ j. place_from s column_size k (at_start (start + count_size) i h j) (rest n i (u16_at s start) h e j)) ∙ sym (tabulate_at (column_place s start) column_limit k 0 b)
 
   pub noted_at : (places : List ℕ) (column : ℕ) → places ≡ column_places s start → column < length places → get_or places column 0 ≡ column_place s start column
-  noted_at places column is h = ap (λ (l : List ℕ). get_or l column 0) is ∙ tabulate-at (column_place s start) column_limit column 0 (subst (λ (m : ℕ). column < m) (ap length is ∙ tabulate-length (column_place s start) column_limit) h)
+  noted_at places column is h = ap (λ (l : List ℕ). get_or l column 0) is ∙ tabulate_at (column_place s start) column_limit column 0 (subst (λ (m : ℕ). column < m) (ap length is ∙ tabulate_length (column_place s start) column_limit) h)

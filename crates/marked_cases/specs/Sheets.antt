@@ -74,7 +74,7 @@ equality = sheet_with left right (Binary Eq 0 1 ∷ []) []
 abbrev pub residual : Sheet
 residual = sheet_with left right (Binary Eq 0 1 ∷ Other ∷ []) []
 
--- frequencies 75 and 25, distincts 8 and 4, null_safe_law
+-- frequencies 75 and 25, distincts 8 and 4, null-safe
 abbrev pub null_safe : Sheet
 null_safe = sheet_with (profile 1 Absent Absent (plain 75 0) (plain 1 3)) (profile 2 Absent Absent (plain 25 0) (plain 1 2)) (Binary IsNotDistinctFrom 0 1 ∷ []) []
 
@@ -89,7 +89,7 @@ touching_left = profile 1 (int32 0) (int32 9) (plain 25 2) (plain 1 2)
 abbrev pub touching_right : ColumnProfile
 touching_right = profile 2 (int32 9) (int32 19) (plain 25 1) (plain 1 2)
 
--- 1 = 2 and 2 null_safe_law 3
+-- 1 = 2 and 2 null-safe 3
 abbrev pub chain : Sheet
 chain = sheet_with left right (Binary Eq 0 1 ∷ Binary IsNotDistinctFrom 1 2 ∷ []) []
 
@@ -97,7 +97,7 @@ chain = sheet_with left right (Binary Eq 0 1 ∷ Binary IsNotDistinctFrom 1 2 �
 abbrev pub self_equality : Sheet
 self_equality = sheet_with left right (Binary Eq 0 0 ∷ []) []
 
--- frequency 75: expressions 3 and 4 are column 1 equal to itself, ordinary and null_safe_law
+-- frequency 75: expressions 3 and 4 are column 1 equal to itself, ordinary and null-safe
 abbrev pub itself : Sheet
 itself = sheet_with (profile 1 Absent Absent (plain 75 0) (plain 5 1)) right (Binary Eq 0 0 ∷ Binary IsNotDistinctFrom 0 0 ∷ []) []
 

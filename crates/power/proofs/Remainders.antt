@@ -1,5 +1,5 @@
 -- What is left of a root's power: weight is 2 ^ j, the number left has j digits, and what they have yet to give is what was asked. Assumes nothing.
-use Rattle.std.proofs.Common.{◌≡◌, ℕ, zero, suc, ◌-◌, ◌/◌, ◌^◌, ◌<◌, ◌≤◌, sym, refl, ap, ◌∙◌, subst, pow-suc, arith, pow_pos}
+use Rattle.std.proofs.Common.{◌≡◌, ℕ, zero, suc, ◌-◌, ◌/◌, ◌^◌, ◌<◌, ◌≤◌, sym, refl, ap, ◌∙◌, subst, pow-suc, arith}
 use lib.Ieee.{Float, binary64, mul}
 use Rattle.root.specs.Root.{root}
 use Rattle.power.specs.Power.{root_power}
@@ -63,9 +63,6 @@ module _ (asked r q s : Float) (left weight : ℕ) (l : Left asked r q left weig
         under = u;
         gives = ap (λ (v : Float). root_power i v q left) e ∙ sym (roots_zero i r q left u) ∙ all;
       }
-
-pub less : (asked r q : Float) (left weight : ℕ) → Left asked r q left weight → weight / 2 < weight
-less asked r q left weight l = let e = l.weighs in let p = pow_pos l.j in omega arith
 
 pub ended : (asked r q : Float) (left weight : ℕ) → Left asked r q left weight → left ≤ 0 → q ≡ asked
 ended asked r q left weight l h = sym (roots_none l.j r q) ∙ ap (root_power l.j r q) (sym (zero_is left h)) ∙ l.gives

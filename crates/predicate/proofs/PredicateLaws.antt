@@ -14,7 +14,7 @@ use Rattle.records.specs.Lists.{tabulate_from}
 use Rattle.records.specs.declared.expressions.NaryOp.{NaryOp}
 use Rattle.records.specs.declared.expressions.Expression.{Expression}
 use Rattle.records.specs.declared.expressions.Expression.TheVariants.{ColumnRef, Other}
-use Rattle.records.proofs.ListLaws.{tabulate-step, tabulate-end}
+use Rattle.records.proofs.ListLaws.{tabulate_step, tabulate_end}
 use Rattle.expression_rules.specs.Operands.{expression_place}
 use Rattle.sheet.specs.Sheet.{Sheet, sheet_of}
 use Rattle.sheet.specs.declared.Sections.{Sections}
@@ -90,9 +90,9 @@ module _ (s : List ℕ) (q : Sections) (op : NaryOp) (first count : ℕ) (estima
   unfolding operand_product
   product_next product next i end o estimate h e f g rest =
       ap (λ (x : Float). operand_product op estimates x (tabulate_from (operand_in s q.operands) (i + 1) (end - (i + 1)))) (g ∙ ap (λ (x : Estimate). mul binary64 product (operand_factor op x.value)) (f ∙ ap estimates e))
-      ∙ ap (operand_product op estimates product) (sym (tabulate-step (operand_in s q.operands) i end h))
+      ∙ ap (operand_product op estimates product) (sym (tabulate_step (operand_in s q.operands) i end h))
       ∙ rest
 
   pub product_all : (product : Float) (i end : ℕ) → end ≤ i → ProductRest product i end → product ≡ operand_product op estimates f64_one (operands_of (sheet_of s q) first count)
   unfolding operand_product
-  product_all product i end h rest = ap (operand_product op estimates product) (sym (tabulate-end (operand_in s q.operands) i end h)) ∙ rest
+  product_all product i end h rest = ap (operand_product op estimates product) (sym (tabulate_end (operand_in s q.operands) i end h)) ∙ rest

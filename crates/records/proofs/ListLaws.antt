@@ -28,10 +28,10 @@ earlier j n h = omega arith
 
 -- ---- from any place on
 
-from-length {ℓ} : {A : Type ℓ} (f : ℕ → A) (i n : ℕ) → length (tabulate_from f i n) ≡ n
+from_length {ℓ} : {A : Type ℓ} (f : ℕ → A) (i n : ℕ) → length (tabulate_from f i n) ≡ n
 unfolding tabulate_from
-from-length f i zero = refl
-from-length f i (suc n) = ap suc (from-length f (i + 1) n)
+from_length f i zero = refl
+from_length f i (suc n) = ap suc (from_length f (i + 1) n)
 
 from_at {ℓ} : {A : Type ℓ} (f : ℕ → A) (i n j : ℕ) (d : A) → j < n → get_or (tabulate_from f i n) j d ≡ f (i + j)
 unfolding tabulate_from
@@ -50,48 +50,48 @@ from_in f i (suc n) x m =
     (suc r.0, later r.0 n r.1, r.2 ∙ ap f (shift i r.0)))
     (Memᴰ.cases_cons m)
 
-in-from {ℓ} : {A : Type ℓ} (f : ℕ → A) (i n j : ℕ) → j < n → Memᴰ (f (i + j)) (tabulate_from f i n)
+in_from {ℓ} : {A : Type ℓ} (f : ℕ → A) (i n j : ℕ) → j < n → Memᴰ (f (i + j)) (tabulate_from f i n)
 unfolding tabulate_from
-in-from f i zero j h = absurd (none j h)
-in-from f i (suc n) zero h = Memᴰ.head (ap f (add-zero i))
-in-from f i (suc n) (suc j) h = Memᴰ.tail (Memᴰ.cast (ap f (sym (shift i j))) (in-from f (i + 1) n j (earlier j n h)))
+in_from f i zero j h = absurd (none j h)
+in_from f i (suc n) zero h = Memᴰ.head (ap f (add-zero i))
+in_from f i (suc n) (suc j) h = Memᴰ.tail (Memᴰ.cast (ap f (sym (shift i j))) (in_from f (i + 1) n j (earlier j n h)))
 
-from-alike {ℓ} : {A : Type ℓ} (f g : ℕ → A) (i n : ℕ) → ((j : ℕ) → j < n → f (i + j) ≡ g (i + j)) → tabulate_from f i n ≡ tabulate_from g i n
+from_alike {ℓ} : {A : Type ℓ} (f g : ℕ → A) (i n : ℕ) → ((j : ℕ) → j < n → f (i + j) ≡ g (i + j)) → tabulate_from f i n ≡ tabulate_from g i n
 unfolding tabulate_from
-from-alike f g i zero h = refl
-from-alike f g i (suc n) h =
+from_alike f g i zero h = refl
+from_alike f g i (suc n) h =
     let here = ap f (sym (add-zero i)) ∙ h 0 (first n) ∙ ap g (add-zero i) in
-    let rest = from-alike f g (i + 1) n (λ (j : ℕ) (l : j < n). ap f (shift i j) ∙ h (suc j) (later j n l) ∙ ap g (sym (shift i j))) in
+    let rest = from_alike f g (i + 1) n (λ (j : ℕ) (l : j < n). ap f (shift i j) ∙ h (suc j) (later j n l) ∙ ap g (sym (shift i j))) in
     λ k. here k ∷ rest k
 
 -- ---- the whole list
 
-pub tabulate-length {ℓ} : {A : Type ℓ} (f : ℕ → A) (n : ℕ) → length (tabulate f n) ≡ n
-tabulate-length f n = from-length f 0 n
+pub tabulate_length {ℓ} : {A : Type ℓ} (f : ℕ → A) (n : ℕ) → length (tabulate f n) ≡ n
+tabulate_length f n = from_length f 0 n
 
-pub tabulate-at {ℓ} : {A : Type ℓ} (f : ℕ → A) (n i : ℕ) (d : A) → i < n → get_or (tabulate f n) i d ≡ f i
-tabulate-at f n i d h = from_at f 0 n i d h ∙ ap f (zero-add i)
+pub tabulate_at {ℓ} : {A : Type ℓ} (f : ℕ → A) (n i : ℕ) (d : A) → i < n → get_or (tabulate f n) i d ≡ f i
+tabulate_at f n i d h = from_at f 0 n i d h ∙ ap f (zero-add i)
 
-pub tabulate-in {ℓ} : {A : Type ℓ} (f : ℕ → A) (n : ℕ) (x : A) → Memᴰ x (tabulate f n) → (i : ℕ) × (i < n) × (x ≡ f i)
-tabulate-in f n x m =
+pub tabulate_in {ℓ} : {A : Type ℓ} (f : ℕ → A) (n : ℕ) (x : A) → Memᴰ x (tabulate f n) → (i : ℕ) × (i < n) × (x ≡ f i)
+tabulate_in f n x m =
     let r = from_in f 0 n x m in
     (r.0, r.1, r.2 ∙ ap f (zero-add r.0))
 
-pub tabulate-alike {ℓ} : {A : Type ℓ} (f g : ℕ → A) (n : ℕ) → ((i : ℕ) → i < n → f i ≡ g i) → tabulate f n ≡ tabulate g n
-tabulate-alike f g n h = from-alike f g 0 n (λ (j : ℕ) (l : j < n). ap f (zero-add j) ∙ h j l ∙ ap g (sym (zero-add j)))
+pub tabulate_alike {ℓ} : {A : Type ℓ} (f g : ℕ → A) (n : ℕ) → ((i : ℕ) → i < n → f i ≡ g i) → tabulate f n ≡ tabulate g n
+tabulate_alike f g n h = from_alike f g 0 n (λ (j : ℕ) (l : j < n). ap f (zero-add j) ∙ h j l ∙ ap g (sym (zero-add j)))
 
 -- ---- what is left of n elements behind the first i
 
-pub tabulate-step {ℓ} : {A : Type ℓ} (f : ℕ → A) (i n : ℕ) → i < n → tabulate_from f i (n - i) ≡ f i ∷ tabulate_from f (i + 1) (n - (i + 1))
+pub tabulate_step {ℓ} : {A : Type ℓ} (f : ℕ → A) (i n : ℕ) → i < n → tabulate_from f i (n - i) ≡ f i ∷ tabulate_from f (i + 1) (n - (i + 1))
 unfolding tabulate_from
-tabulate-step f i n h = ap (tabulate_from f i) (one_more i n h)
+tabulate_step f i n h = ap (tabulate_from f i) (one_more i n h)
   where
     one_more : (i n : ℕ) → i < n → n - i ≡ suc (n - (i + 1))
     one_more i n h = omega arith
 
-pub tabulate-end {ℓ} : {A : Type ℓ} (f : ℕ → A) (i n : ℕ) → n ≤ i → tabulate_from f i (n - i) ≡ []
+pub tabulate_end {ℓ} : {A : Type ℓ} (f : ℕ → A) (i n : ℕ) → n ≤ i → tabulate_from f i (n - i) ≡ []
 unfolding tabulate_from
-tabulate-end f i n h = ap (tabulate_from f i) (no_more i n h)
+tabulate_end f i n h = ap (tabulate_from f i) (no_more i n h)
   where
     no_more : (i n : ℕ) → n ≤ i → n - i ≡ 0
     no_more i n h = omega arith

@@ -1,4 +1,4 @@
--- square_root of IEEE 754-2019 (5.4.1, 4.3.1) at binary64: the infinitely precise root, rounded once to the nearest value, a tie to the even one. Definitions only.
+-- squareRoot of IEEE 754-2019 (5.4.1, 4.3.1) at binary64: the infinitely precise root, rounded once to the nearest value, a tie to the even one. Definitions only.
 -- Counted in squares of the format's smallest value a positive finite x is a whole number n. Its root is then √n smallest values, and √n is compared by squares.
 use Rattle.std.specs.Prelude.{ℕ, zero, suc, ◌+◌, ◌-◌, ◌*◌, ◌/◌, ◌^◌, false, cond, Float}
 use Prim.Native.Nat.{compare}

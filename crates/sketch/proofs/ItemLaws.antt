@@ -8,7 +8,7 @@ use Rattle.scalar_bytes.specs.Reading.{scalar_at}
 use Rattle.records.specs.Lists.{tabulate_from}
 use Rattle.records.specs.Sketches.{sketch_item_at, sketch_item, sketch_at}
 use Rattle.records.specs.declared.sketches.SketchItem.{SketchItem}
-use Rattle.records.proofs.ListLaws.{tabulate-length, tabulate-step, tabulate-end}
+use Rattle.records.proofs.ListLaws.{tabulate_length, tabulate_step, tabulate_end}
 use Rattle.sketch.specs.Frequent.{find_item, tracked_rows, residual_rows}
 use Rattle.sketch.specs.declared.items.FoundItem.{FoundItem}
 use Rattle.sketch.specs.declared.items.FoundItem.TheVariants.{Absent, Present}
@@ -19,7 +19,7 @@ items_from s at i n = tabulate_from (sketch_item s at) i (n - i)
 
 pub items_count : (s : List ℕ) (at : ℕ) → u16_at s (at + 8) ≡ length (sketch_at s at).items
 unfolding sketch_at
-items_count s at = sym (tabulate-length (sketch_item s at) (u16_at s (at + 8)))
+items_count s at = sym (tabulate_length (sketch_item s at) (u16_at s (at + 8)))
 
 pub items_all : (s : List ℕ) (at n : ℕ) → n ≡ length (sketch_at s at).items → items_from s at 0 n ≡ (sketch_at s at).items
 unfolding sketch_at
@@ -31,7 +31,7 @@ module _ (s : List ℕ) (at : ℕ) (value : Scalar) (i n : ℕ) (found : FoundIt
   find_step : i < n → find_item value (items_from s at i n)
       ≡ cond (is_equal (scalar_order (scalar_at s (at + 10 + 35 * i)) value)) (Present (u64_at s (at + 10 + 35 * i + 19)) (u64_at s (at + 10 + 35 * i + 27))) (find_item value (items_from s at (i + 1) n))
   unfolding find_item sketch_item_at
-  find_step h = ap (find_item value) (tabulate-step (sketch_item s at) i n h)
+  find_step h = ap (find_item value) (tabulate_step (sketch_item s at) i n h)
 
   pub find_next : i < n → is_equal (scalar_order (scalar_at s (at + 10 + 35 * i)) value) ≡ false → find_item value (items_from s at (i + 1) n) ≡ found
   find_next h e = sym (rw e at (find_step h)) ∙ rest
@@ -41,7 +41,7 @@ module _ (s : List ℕ) (at : ℕ) (value : Scalar) (i n : ℕ) (found : FoundIt
 
   pub find_none : n ≤ i → Absent ≡ found
   unfolding find_item
-  find_none h = sym (ap (find_item value) (tabulate-end (sketch_item s at) i n h)) ∙ rest
+  find_none h = sym (ap (find_item value) (tabulate_end (sketch_item s at) i n h)) ∙ rest
 
 -- ---- the rows left
 
@@ -53,11 +53,11 @@ module _ (s : List ℕ) (at i n left all : ℕ) (rest : left - tracked_rows (ite
   pub rows_next : i < n → left - u64_at s (at + 10 + 35 * i + 19) - tracked_rows (items_from s at (i + 1) n) ≡ all
   unfolding tracked_rows sketch_item_at
   rows_next h =
-      let step : tracked_rows (items_from s at i n) ≡ u64_at s (at + 10 + 35 * i + 19) + tracked_rows (items_from s at (i + 1) n) = ap tracked_rows (tabulate-step (sketch_item s at) i n h) in
+      let step : tracked_rows (items_from s at i n) ≡ u64_at s (at + 10 + 35 * i + 19) + tracked_rows (items_from s at (i + 1) n) = ap tracked_rows (tabulate_step (sketch_item s at) i n h) in
       omega arith
 
   pub rows_end : n ≤ i → left ≡ all
   unfolding tracked_rows
   rows_end h =
-      let step : tracked_rows (items_from s at i n) ≡ 0 = ap tracked_rows (tabulate-end (sketch_item s at) i n h) in
+      let step : tracked_rows (items_from s at i n) ≡ 0 = ap tracked_rows (tabulate_end (sketch_item s at) i n h) in
       omega arith

@@ -6,7 +6,7 @@ use Rattle.le.specs.Fields.{u64_at}
 use Rattle.scalar_bytes.specs.Reading.{scalar_at}
 use Rattle.records.specs.Sketches.{sketch_item_at, sketch_item, sketch_at}
 use Rattle.records.specs.declared.sketches.SketchItem.{SketchItem}
-use Rattle.records.proofs.ListLaws.{tabulate-step, tabulate-end}
+use Rattle.records.proofs.ListLaws.{tabulate_step, tabulate_end}
 use Rattle.sketch.specs.Frequent.{find_item, count}
 use Rattle.sketch.specs.declared.items.FoundItem.{FoundItem}
 use Rattle.sketch.specs.declared.items.FoundItem.TheVariants.{Absent, Present}
@@ -51,11 +51,11 @@ module _ (s : List ℕ) (at i n : ℕ) (right : List SketchItem) (sums all : Com
   pub common_next : i < n
       → common_from (with_common sums (u64_at s (at + 10 + 35 * i + 19)) (find_item (scalar_at s (at + 10 + 35 * i)) right)) (items_from s at (i + 1) n) right ≡ all
   unfolding common_from sketch_item_at
-  common_next h = sym (ap (λ (l : List SketchItem). common_from sums l right) (tabulate-step (sketch_item s at) i n h)) ∙ rest
+  common_next h = sym (ap (λ (l : List SketchItem). common_from sums l right) (tabulate_step (sketch_item s at) i n h)) ∙ rest
 
   pub common_end : n ≤ i → sums ≡ all
   unfolding common_from
-  common_end h = sym (ap (λ (l : List SketchItem). common_from sums l right) (tabulate-end (sketch_item s at) i n h)) ∙ rest
+  common_end h = sym (ap (λ (l : List SketchItem). common_from sums l right) (tabulate_end (sketch_item s at) i n h)) ∙ rest
 
 -- ---- for rows of the left side
 
@@ -80,8 +80,8 @@ module _ (s : List ℕ) (at i n : ℕ) (right : List SketchItem) (sums all : Mat
   pub matched_next : i < n
       → matched_from (with_matched sums (u64_at s (at + 10 + 35 * i + 19)) (find_item (scalar_at s (at + 10 + 35 * i)) right)) (items_from s at (i + 1) n) right ≡ all
   unfolding matched_from sketch_item_at
-  matched_next h = sym (ap (λ (l : List SketchItem). matched_from sums l right) (tabulate-step (sketch_item s at) i n h)) ∙ rest
+  matched_next h = sym (ap (λ (l : List SketchItem). matched_from sums l right) (tabulate_step (sketch_item s at) i n h)) ∙ rest
 
   pub matched_end : n ≤ i → sums ≡ all
   unfolding matched_from
-  matched_end h = sym (ap (λ (l : List SketchItem). matched_from sums l right) (tabulate-end (sketch_item s at) i n h)) ∙ rest
+  matched_end h = sym (ap (λ (l : List SketchItem). matched_from sums l right) (tabulate_end (sketch_item s at) i n h)) ∙ rest

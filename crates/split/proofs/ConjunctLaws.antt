@@ -7,7 +7,7 @@ use lib.ListN.{length, take, drop, get_or, set, length-append}
 use lib.Seq.{drop-cons, append_snoc, set-append_seam}
 use Rattle.records.specs.Lists.{tabulate_from}
 use Rattle.records.specs.declared.expressions.Expression.{Expression}
-use Rattle.records.proofs.ListLaws.{tabulate-step, tabulate-end}
+use Rattle.records.proofs.ListLaws.{tabulate_step, tabulate_end}
 use Rattle.sheet.specs.Sheet.{Sheet, sheet_of}
 use Rattle.sheet.specs.declared.Sections.{Sections}
 use Rattle.lookup.specs.Lookup.{expression_of, operand_in, operands_of}
@@ -93,7 +93,7 @@ module _ (s : List ℕ) (q : Sections) (first count limit : ℕ) where
     pub put_all : (numbers : List ℕ) (at i end : ℕ) → end ≤ i → Put numbers₀ numbers at i end → (at ≡ length all) × (numbers ≡ onto all numbers₀)
     unfolding flattened rest_from
     put_all numbers at i end h p =
-        let none : rest_from end i ≡ [] = ap (flattened operand_conjuncts) (tabulate-end (operand_in s q.operands) i end h) in
+        let none : rest_from end i ≡ [] = ap (flattened operand_conjuncts) (tabulate_end (operand_in s q.operands) i end h) in
         (filled_length (rest_from end) all numbers₀ numbers at i none p, filled_all (rest_from end) all numbers₀ numbers at i none p)
 
     module _ (room : length all ≤ length numbers₀) where
@@ -105,7 +105,7 @@ module _ (s : List ℕ) (q : Sections) (first count limit : ℕ) where
         next : (piece : List ℕ) → piece ≡ operand_conjuncts o → rest_from end i ≡ piece ++ rest_from end (i + 1)
         unfolding flattened rest_from
         next piece g =
-            ap (flattened operand_conjuncts) (tabulate-step (operand_in s q.operands) i end h)
+            ap (flattened operand_conjuncts) (tabulate_step (operand_in s q.operands) i end h)
             ∙ ap (λ (l : List ℕ). l ++ rest_from end (i + 1)) (sym (g ∙ ap operand_conjuncts e))
 
         -- an operand below the limit: its conjuncts, in the part that is lent for them

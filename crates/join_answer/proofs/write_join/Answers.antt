@@ -8,7 +8,7 @@ use Rattle.sheet.specs.Sheet.{sheet_of}
 use Rattle.class_state.specs.State.{no_distinct}
 use Rattle.class_state.proofs.SizeLaws.{classes_size, class_count_below}
 use Rattle.class_state.proofs.CountLaws.{count_at, counts_size_law, counts_returned}
-use Rattle.class_state.proofs.UnionLaws.{read-any}
+use Rattle.class_state.proofs.UnionLaws.{read_any}
 use Rattle.class_state.proofs.ReturnedLaws.{returned_first, returned_within, returned_below, returned_room, returned_part, returned_next, returned_end, returned_all}
 use Rattle.equality_pairs.proofs.MarkedLaws.{marked_below}
 use Rattle.answers.proofs.AnswerLaws.{fitting, too_short}
@@ -103,7 +103,7 @@ loop-at-preserved c =
     let e = l.invariant.1 in
     let p = c.put_returned-at.ensures in
     let d : length r.classes.distincts ≡ 128 = j.type_inv.1.1.1.1.1.0.1.1.1.0.1.0.1 in
-    let next = returned_next r.classes _ first_class_offset l.invariant.2 l.out l.at l.root l.invariant.7 h _ _ _ _ (read-any r.classes.distincts l.root _ no_distinct (omega arith)) p.value refl p.out_after in
+    let next = returned_next r.classes _ first_class_offset l.invariant.2 l.out l.at l.root l.invariant.7 h _ _ _ _ (read_any r.classes.distincts l.root _ no_distinct (omega arith)) p.value refl p.out_after in
     let k = returned_within r.classes _ first_class_offset l.invariant.2 _ _ _ next in
     (l.invariant.0, l.invariant.1, l.invariant.2, k.0, k.1, l.invariant.5, λ t. returned_below r.classes _ first_class_offset l.invariant.2 _ _ _ next (omega arith), next)
 

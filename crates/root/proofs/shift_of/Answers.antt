@@ -15,15 +15,15 @@ top d D h =
 shift : (d j : ℕ) → 2 ^ j ≤ d → d < 2 ^ suc j → j < 53 → Shift d (52 - j)
 shift d j lo hi l = record {
   high = le_trans (le_of_eq (ap (λ (k : ℕ). 2 ^ k) (sym (up j l)) ∙ pow-add 2 j (52 - j))) (mul-le-mul_right (2 ^ (52 - j)) lo);
-  low = lt_of_lt_of_le (mul-lt-mul_of_pos_right hi (pow_pos (52 - j))) (le_of_eq (sym (pow-add 2 (suc j) (52 - j)) ∙ ap (λ (k : ℕ). 2 ^ k) (up-1 j l)));
+  low = lt_of_lt_of_le (mul-lt-mul_of_pos_right hi (pow_pos (52 - j))) (le_of_eq (sym (pow-add 2 (suc j) (52 - j)) ∙ ap (λ (k : ℕ). 2 ^ k) (up_1 j l)));
   few = omega arith;
 }
   where
     up : (j : ℕ) → j < 53 → j + (52 - j) ≡ 52
     up j l = omega arith
 
-    up-1 : (j : ℕ) → j < 53 → suc j + (52 - j) ≡ 53
-    up-1 j l = omega arith
+    up_1 : (j : ℕ) → j < 53 → suc j + (52 - j) ≡ 53
+    up_1 j l = omega arith
 
 count : (z j : ℕ) → z + suc j ≡ 64 → j < 53 → z - 11 ≡ 52 - j
 count z j e l = omega arith

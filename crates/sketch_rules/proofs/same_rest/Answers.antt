@@ -9,12 +9,12 @@ use Rattle.le.proofs.FieldLaws.{Bytes, u8_sum, field_same}
 use Rattle.sketch_rules.proofs.same_rest.Goals as goal
 
 -- eleven bytes as eight, two and one
-three-parts : (s : List ℕ) (a b : ℕ) → Bytes s
+three_parts : (s : List ℕ) (a b : ℕ) → Bytes s
     → eqb (field_at 11 s (a + 8)) (field_at 11 s (b + 8)) ≡ (eqb (field_at 8 s (a + 8)) (field_at 8 s (b + 8)) && (eqb (field_at 2 s (a + 16)) (field_at 2 s (b + 16)) && eqb (byte_at s (a + 18)) (byte_at s (b + 18))))
-three-parts s a b h =
+three_parts s a b h =
     rw (field_same 8 3 s (a + 8) (b + 8) h, add_assoc a 8 8, add_assoc b 8 8, field_same 2 1 s (a + 16) (b + 16) h, add_assoc a 16 2, add_assoc b 16 2, u8_sum s (a + 18), u8_sum s (b + 18)) refl
 
 pub returns : goal.returns
 returns c =
     rw (c.both-2.ensures, c.both.ensures, c.byte_at-2.ensures, c.byte_at.ensures, c.u16_at-2.ensures, c.u16_at.ensures, c.u64_at-2.ensures, c.u64_at.ensures)
-    (sym (three-parts c.args.s.now c.args.a c.args.b (λ k. (c.type_inv.s k).fits)))
+    (sym (three_parts c.args.s.now c.args.a c.args.b (λ k. (c.type_inv.s k).fits)))

@@ -5,13 +5,13 @@ use lib.Ieee.{Float, nan, inf, fin, of_bits, neg, div, lt}
 use Rattle.interval.proofs.fraction.is_finite.Goals as goal
 
 -- above minus infinity and below infinity
-finite-is : (x : Float) → (lt (inf true) x && lt x (inf false)) ≡ finite x
+finite_is : (x : Float) → (lt (inf true) x && lt x (inf false)) ≡ finite x
 unfolding lt
-finite-is nan = refl
-finite-is (inf true) = refl
-finite-is (inf false) = refl
-finite-is (fin s m e) = refl
+finite_is nan = refl
+finite_is (inf true) = refl
+finite_is (inf false) = refl
+finite_is (fin s m e) = refl
 
 pub returns : goal.returns
 unfolding of_bits neg div
-returns c = c.both.ensures ∙ finite-is c.args.x
+returns c = c.both.ensures ∙ finite_is c.args.x

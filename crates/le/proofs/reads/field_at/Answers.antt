@@ -7,13 +7,13 @@ use Rattle.le.proofs.reads.field_at.Goals as goal
 pub overflow_mul-v : goal.overflow_mul-v
 overflow_mul-v c =
     let e = field_step c.args.n c.args.s.now c.args.at c.loop-i.v c.loop-i.i (omega arith) c.loop-i.invariant.2 in
-    let h = field_within c.args.n c.args.s.now c.args.at (c.loop-i.v * 256 + byte_at c.args.s.now (c.args.at + (c.loop-i.i - 1))) (c.loop-i.i - 1) (λ k. (c.shared_slice_known-1.given k).fits) (omega arith) e in
+    let h = field_within c.args.n c.args.s.now c.args.at (c.loop-i.v * 256 + byte_at c.args.s.now (c.args.at + (c.loop-i.i - 1))) (c.loop-i.i - 1) (λ k. (c.type_inv.s k).fits) (omega arith) e in
     omega arith
 
 pub overflow_add-v : goal.overflow_add-v
 overflow_add-v c =
     let e = field_step c.args.n c.args.s.now c.args.at c.loop-i.v c.loop-i.i (omega arith) c.loop-i.invariant.2 in
-    let h = field_within c.args.n c.args.s.now c.args.at (c.loop-i.v * 256 + byte_at c.args.s.now (c.args.at + (c.loop-i.i - 1))) (c.loop-i.i - 1) (λ k. (c.shared_slice_known-1.given k).fits) (omega arith) e in
+    let h = field_within c.args.n c.args.s.now c.args.at (c.loop-i.v * 256 + byte_at c.args.s.now (c.args.at + (c.loop-i.i - 1))) (c.loop-i.i - 1) (λ k. (c.type_inv.s k).fits) (omega arith) e in
     omega arith
 
 pub loop-i-preserved : goal.loop-i-preserved

@@ -18,4 +18,4 @@ returns-in-Runs c = (rw (c.in-Runs.is, c.run_length.ensures.0) refl, omega arith
 
 pub returns-in-Owner : goal.returns-in-Owner
 unfolding next_tally
-returns-in-Owner c = let few = field_below 2 c.args.s.now c.args.expressions (λ k. (c.shared_slice_known-1.given k).fits) in (rw (c.in-Owner.is, c.nary_from.ensures.0) refl, omega arith)
+returns-in-Owner c = let few = field_below 2 c.args.s.now c.args.expressions (λ k. (c.type_inv.s k).fits) in (rw (c.in-Owner.is, c.nary_from.ensures.0) refl, omega arith)
