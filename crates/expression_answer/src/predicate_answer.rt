@@ -15,7 +15,8 @@ pub fn write_estimate(s: &[u8], q: Sections, e: u16, out: &mut [u8]) -> Answer
     ensures value { result ≡ answered (bytes (predicate_bytes (sheet_of s.now q) e)) out.old }
     ensures out_after { out.new ≡ leaves (bytes (predicate_bytes (sheet_of s.now q) e)) out.old }
 {
-    if ESTIMATE_SIZE <= out.len() {
+    let fits = ESTIMATE_SIZE <= out.len();
+    if fits {
         put_estimate(out, filter_selectivity_for_predicate(s, q, e));
         return Answer::Written(ESTIMATE_SIZE);
     }

@@ -5,8 +5,8 @@ use Rattle.answers.proofs.AnswerLaws.{fitting, too_short}
 use Rattle.sheet.specs.Sheet.{sheet_of}
 use Rattle.expression_answer.proofs.predicate_answer.write_estimate.Goals as goal
 
-pub returns-then-out-ge-ESTIMATE_SIZE : goal.returns-then-out-ge-ESTIMATE_SIZE
-returns-then-out-ge-ESTIMATE_SIZE c =
+pub returns-then-fits : goal.returns-then-fits
+returns-then-fits c =
     let sheet = sheet_of c.args.s.now c.args.q in
     let l = predicate_length sheet c.args.e in
     let p = fitting (predicate_bytes sheet c.args.e) c.args.out.now c.put_estimate.new.out 26 (omega arith) (omega arith) (predicate_written sheet c.args.e _ _ _ c.filter_selectivity_for_predicate.ensures c.put_estimate.ensures) in
