@@ -6,15 +6,11 @@ use native.Mathlib.Omega.{arith}
 use borrow.Author.Tests.{le-leb, lt-leb, lt-ltb, le-ltb}
 use lib.ListN.{length}
 use Rattle.le.specs.Fields.{onto}
-use Rattle.sheet.specs.Check.{check}
+use Rattle.sheet.specs.Check.{Checked, Refused as SheetRefused, Accepted, check}
 use Rattle.sheet.specs.Sheet.{Sheet, sheet_of, sheet_in}
 use Rattle.sheet.specs.declared.Sections.{Sections}
-use Rattle.sheet.specs.declared.Checked.{Checked}
-use Rattle.sheet.specs.declared.Checked.TheVariants.{Refused as SheetRefused, Accepted}
 use Rattle.sheet.proofs.AcceptedLaws.{accepted}
-use Rattle.answers.specs.Answers.{Result, refusal, bytes, answered, leaves, Comes, named_result, sheet_result}
-use Rattle.answers.specs.declared.Answer.{Answer}
-use Rattle.answers.specs.declared.Answer.TheVariants.{Refused, Written}
+use Rattle.answers.specs.Answers.{Answer, Refused, Written, Result, refusal, bytes, answered, leaves, Comes, named_result, sheet_result}
 
 -- ---- a result
 

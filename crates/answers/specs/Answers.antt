@@ -1,12 +1,21 @@
 -- What a call answers and what it leaves in the output that it was lent (document 01, "Where a sheet is turned back"). Definitions only.
-use Rattle.std.specs.Prelude.{ℕ, ◌+◌, ◌^◌, ◌≡◌, cond, List, leb, ltb, length}
+use Rattle.std.specs.Prelude.{ℕ, ◌+◌, ◌^◌, ◌≡◌, cond, List, leb, ltb, length, Ok, Err}
+use Rattle.std.specs.Prelude.{Result as Outcome}
+use Rattle.rules.specs.Rules.{refusal_number}
+use Rattle.rules.specs.declared.Refusal.{Refusal}
 use Rattle.le.specs.Fields.{onto}
-use Rattle.sheet.specs.Check.{check}
+use Rattle.sheet.specs.Check.{Checked, Refused as SheetRefused, Accepted, check}
 use Rattle.sheet.specs.Sheet.{Sheet, sheet_in}
-use Rattle.sheet.specs.declared.Checked.{Checked}
-use Rattle.sheet.specs.declared.Checked.TheVariants.{Refused as SheetRefused, Accepted}
-use Rattle.answers.specs.declared.Answer.{Answer}
-use Rattle.answers.specs.declared.Answer.TheVariants.{Refused, Written}
+
+-- what an entry answers: the number of the rule that refuses the call, or how many bytes were written
+pub data Answer : Type 0 where
+  Refused : ℕ → Answer
+  Written : ℕ → Answer
+
+-- by document 01's numbers
+abbrev pub answer_of : Outcome ℕ Refusal → Answer
+answer_of (Ok n) = Written n
+answer_of (Err r) = Refused (refusal_number r)
 
 -- what a call comes to before the output is looked at: a refusal's number, or the answer's bytes
 pub data Result : Type 0 where

@@ -1,5 +1,5 @@
 -- The state of columns that are all alone. Assumes nothing.
-use Prim.Native.Nat.{ℕ, zero, suc, ◌+◌, ◌-◌, ◌*◌, ◌≤◌, ◌<◌}
+use Prim.Native.Nat.{ℕ, zero, suc, ◌+◌, ◌-◌, ◌≤◌, ◌<◌}
 use mathlib.Core.Path.{◌≡◌, refl, sym, ap, ◌∙◌, subst}
 use mathlib.Core.Bool.{Bool, true, false, cond}
 use mathlib.Core.List.{List}
@@ -7,6 +7,8 @@ use native.Mathlib.Omega.{arith}
 use borrow.Author.Tests.{eqb-true, eqb-false, ltb-true, ltb-false}
 use lib.Dec.{eqb, ltb}
 use lib.Ieee.{Float}
+use Rattle.std.specs.Prelude.{Option, None, Some}
+use Rattle.std.specs.Option.{option_or}
 use lib.ListN.{length, get_or, set, replicate, length-set, length-replicate, get_or-replicate}
 use lib.Seq.{get_or-set_same, get_or-set_other, set_out, ext_get_or}
 use Rattle.le.specs.Fields.{u16_at}
@@ -21,9 +23,10 @@ use Rattle.sheet.specs.declared.Sections.{Sections}
 use Rattle.sheet.specs.declared.order.Kind.TheVariants.{Columns}
 use Rattle.sheet.proofs.PlaceLaws.{columns_fixed, fixed_place}
 use Rattle.scan.specs.Scan.{first_with}
-use Rattle.lookup.specs.Lookup.{ProfileAndRows, Absent, Present, profile_in, or_else_profile, left_profile, right_profile, profile_and_rows}
+use Rattle.lookup.specs.Lookup.{ProfileAndRows, profile_in, left_profile, right_profile, profile_and_rows}
 use Rattle.class_state.specs.declared.EquivalenceClassState.{EquivalenceClassState}
 use Rattle.layout.specs.Places.{column_limit}
+use Rattle.class_state.specs.Distincts.{record_place, stored_from, store_distincts}
 use Rattle.class_state.specs.State.{unknown_distinct, own_distinct, column_distinct, apart}
 
 -- ---- each column its own root, where a loop stands at the i-th
@@ -57,20 +60,6 @@ own_all out i n h o = ext_get_or 0 out (tabulate itself 128) (n ∙ sym (tabulat
 
 -- ---- distincts stored from the last profile to the first
 
--- profile i of a section of columns, whose count stands at `start`
-abbrev pub record_place : ℕ → ℕ → ℕ
-record_place start i = start + 2 + 98 * i
-
--- of n profiles from the i-th on, the first of a column over later ones
-unfoldable pub stored_from : List ℕ → ℕ → ℕ → ℕ → List Estimate → List Estimate
-unfolding estimate_at
-stored_from s start i zero l = l
-stored_from s start i (suc n) l = set (stored_from s start (i + 1) n l) (u16_at s (record_place start i)) (estimate_at s (record_place start i + 70))
-
--- of all of them
-abbrev pub stored : List ℕ → ℕ → List Estimate → List Estimate
-stored s start l = stored_from s start 0 (u16_at s start) l
-
 module _ (s : List ℕ) (start : ℕ) (l₀ : List Estimate) where
   pub stored_first : (n : ℕ) → l₀ ≡ stored_from s start n (n - n) l₀
   unfolding stored_from
@@ -102,7 +91,7 @@ module _ (s : List ℕ) (start : ℕ) (l₀ : List Estimate) where
   pub stored_past : (l : List Estimate) (i n column : ℕ) → 1 ≤ i → i ≤ n → column ≡ u16_at s (record_place start (i - 1)) → length l ≤ column → l ≡ stored_from s start i (n - i) l₀ → l ≡ stored_from s start (i - 1) (n - (i - 1)) l₀
   stored_past l i n column h k c past e = stored_next l l i n column h k c (sym (set_out l column (estimate_at s (record_place start (i - 1) + 70)) past)) e
 
-  pub stored_all : (l : List Estimate) (i n : ℕ) → i ≤ 0 → n ≡ u16_at s start → l ≡ stored_from s start i (n - i) l₀ → l ≡ stored s start l₀
+  pub stored_all : (l : List Estimate) (i n : ℕ) → i ≤ 0 → n ≡ u16_at s start → l ≡ stored_from s start i (n - i) l₀ → l ≡ store_distincts s start l₀
   stored_all l i n h c e = e ∙ (λ j. stored_from s start (zeroth i h j) (rest i n (u16_at s start) h c j) l₀)
     where
       zeroth : (i : ℕ) → i ≤ 0 → i ≡ 0
@@ -114,14 +103,14 @@ module _ (s : List ℕ) (start : ℕ) (l₀ : List Estimate) where
 -- ---- a column's distinct
 
 -- a profile's distinct, or another where there is none
-abbrev own_or : Estimate → ProfileAndRows → Estimate
-own_or other Absent = other
-own_or other (Present profile rows) = profile.distinct
+abbrev own_or : Estimate → Option ProfileAndRows → Estimate
+own_or other None = other
+own_or other (Some (profile, rows)) = profile.distinct
 
-own_either : (sheet : Sheet) (left right : ProfileAndRows) → own_or (own_or (unknown_distinct sheet) right) left ≡ own_distinct sheet (or_else_profile left right)
-own_either sheet Absent Absent = refl
-own_either sheet Absent (Present profile rows) = refl
-own_either sheet (Present profile rows) right = refl
+own_either : (sheet : Sheet) (left right : Option ProfileAndRows) → own_or (own_or (unknown_distinct sheet) right) left ≡ own_distinct sheet (option_or left right)
+own_either sheet None None = refl
+own_either sheet None (Some (profile, rows)) = refl
+own_either sheet (Some (profile, rows)) right = refl
 
 abbrev profile_at : List ℕ → ℕ → ℕ → ColumnProfile
 profile_at s start i = column_profile_at s (record_place start i)
@@ -135,7 +124,7 @@ module _ (s : List ℕ) (start : ℕ) (l : List Estimate) (d : Estimate) (rows :
       go : (t : Bool) → (t ≡ true → u16_at s (record_place start i) ≡ column) → (t ≡ false → u16_at s (record_place start i) ≡ column → ⊥)
           → get_or (stored_from s start (i + 1) n l) column d ≡ own_or (get_or l column d) (profile_in rows column (tabulate_from (profile_at s start) (i + 1) n))
           → get_or (set (stored_from s start (i + 1) n l) (u16_at s (record_place start i)) (estimate_at s (record_place start i + 70))) column d
-          ≡ own_or (get_or l column d) (cond t (Present (profile_at s start i) rows) (profile_in rows column (tabulate_from (profile_at s start) (i + 1) n)))
+          ≡ own_or (get_or l column d) (cond t (Some (profile_at s start i, rows)) (profile_in rows column (tabulate_from (profile_at s start) (i + 1) n)))
       go true e f r =
           let k : column < length (stored_from s start (i + 1) n l) = subst (λ (m : ℕ). column < m) (sym (stored_length s start l (i + 1) n)) h in
           subst
@@ -146,7 +135,7 @@ module _ (s : List ℕ) (start : ℕ) (l : List Estimate) (d : Estimate) (rows :
           get_or-set_other (stored_from s start (i + 1) n l) (u16_at s (record_place start i)) column (estimate_at s (record_place start i + 70)) d (λ (z : column ≡ u16_at s (record_place start i)). f refl (sym z)) ∙ r
 
   -- of a whole section
-  stored_at : get_or (stored s start l) column d ≡ own_or (get_or l column d) (profile_in rows column (records_in Columns column_profile_at s start))
+  stored_at : get_or (store_distincts s start l) column d ≡ own_or (get_or l column d) (profile_in rows column (records_in Columns column_profile_at s start))
   unfolding records_in
   stored_at =
       stored_from_law 0 (u16_at s start)
@@ -160,18 +149,18 @@ module _ (s : List ℕ) (q : Sections) where
 
   -- the left columns over the right ones, over none
   abbrev pub all_stored : List Estimate
-  all_stored = stored s q.left_columns (stored s q.right_columns (replicate 128 unknown))
+  all_stored = store_distincts s q.left_columns (store_distincts s q.right_columns (replicate 128 unknown))
 
-  right_length : length (stored s q.right_columns (replicate 128 unknown)) ≡ 128
+  right_length : length (store_distincts s q.right_columns (replicate 128 unknown)) ≡ 128
   right_length = stored_length s q.right_columns (replicate 128 unknown) 0 _ ∙ length-replicate {A = Estimate} 128 unknown
 
   all_length : length all_stored ≡ 128
-  all_length = stored_length s q.left_columns (stored s q.right_columns (replicate 128 unknown)) 0 _ ∙ right_length
+  all_length = stored_length s q.left_columns (store_distincts s q.right_columns (replicate 128 unknown)) 0 _ ∙ right_length
 
   column_distinct_law : (column : ℕ) → column < 128 → get_or all_stored column unknown ≡ column_distinct (sheet_of s q) column
   unfolding sheet_of profile_and_rows
   column_distinct_law column h =
-      let right = stored s q.right_columns (replicate 128 unknown) in
+      let right = store_distincts s q.right_columns (replicate 128 unknown) in
       let n = length-replicate {A = Estimate} 128 unknown in
       let m = right_length in
       stored_at s q.left_columns right unknown (sheet_of s q).left_rows.value column (omega arith)
@@ -186,7 +175,7 @@ module _ (s : List ℕ) (q : Sections) where
       at : (k : ℕ) → k < 128 → get_or all_stored k unknown ≡ get_or (tabulate (column_distinct (sheet_of s q)) column_limit) k unknown
       at k h = column_distinct_law k h ∙ sym (tabulate_at (column_distinct (sheet_of s q)) column_limit k unknown h)
 
-  pub apart_is : (roots : List ℕ) (right left : List Estimate) → roots ≡ tabulate itself column_limit → right ≡ stored s q.right_columns (replicate 128 unknown) → left ≡ stored s q.left_columns right
+  pub apart_is : (roots : List ℕ) (right left : List Estimate) → roots ≡ tabulate itself column_limit → right ≡ store_distincts s q.right_columns (replicate 128 unknown) → left ≡ store_distincts s q.left_columns right
       → ◌≡◌ {A = EquivalenceClassState} (record { roots = roots; distincts = left }) (apart (sheet_of s q))
   unfolding apart
-  apart_is roots right left e f g = λ i. record { roots = e i; distincts = (g ∙ ap (stored s q.left_columns) f ∙ all_distincts) i }
+  apart_is roots right left e f g = λ i. record { roots = e i; distincts = (g ∙ ap (store_distincts s q.left_columns) f ∙ all_distincts) i }

@@ -1,11 +1,10 @@
 -- The classes of a profile, united one by one. Assumes nothing.
 use Prim.Native.Nat.{ℕ, zero, suc, ◌+◌, ◌-◌, ◌*◌, ◌≤◌, ◌<◌}
 use mathlib.Core.Path.{◌≡◌, refl, sym, ap, ◌∙◌}
-use mathlib.Core.List.{List, map}
+use mathlib.Core.List.{List}
 use native.Mathlib.Omega.{arith}
 use native.Mathlib.Nat.{add-zero, sub-zero}
-use lib.Dec.{eqb}
-use lib.ListN.{length, get_or, set}
+use lib.ListN.{get_or, set}
 use Rattle.le.specs.Fields.{u16_at}
 use Rattle.estimate.specs.Bytes.{estimate_at}
 use Rattle.estimate.specs.declared.Estimate.{Estimate}
@@ -17,8 +16,7 @@ use Rattle.sheet.specs.Sheet.{record_in, records_in}
 use Rattle.sheet.specs.declared.order.Kind.TheVariants.{Classes}
 use Rattle.sheet.proofs.PlaceLaws.{record_next}
 use Rattle.class_state.specs.declared.EquivalenceClassState.{EquivalenceClassState}
-use Rattle.class_state.specs.State.{moved, united, union, union_each, overwritten, with_columns, with_classes}
-use Rattle.class_state.proofs.UnionLaws.{union_step}
+use Rattle.class_state.specs.State.{union, union_each, overwritten, with_columns, with_classes}
 
 abbrev pub class_state : List ℕ → List Estimate → EquivalenceClassState
 class_state roots distincts = record { roots = roots; distincts = distincts }
@@ -33,26 +31,20 @@ module _ (s : List ℕ) (at : ℕ) (distinct : Estimate) where
   unfolding union_each
   united_step state i h = ap (λ (l : List ℕ). union_each state (u16_at s (at + 28)) l distinct) (sym (tabulate_step (class_column s at) i (u16_at s at) h))
 
-  abbrev pub UnitedRest : List ℕ → List Estimate → List ℕ → List Estimate → ℕ → Type 0
-  UnitedRest roots₀ distincts₀ roots distincts i = united_from (class_state roots distincts) i ≡ united_from (class_state roots₀ distincts₀) 1
+  abbrev pub UnitedRest : EquivalenceClassState → EquivalenceClassState → ℕ → Type 0
+  UnitedRest state₀ state i = united_from state i ≡ united_from state₀ 1
 
-  module _ (roots₀ : List ℕ) (distincts₀ : List Estimate) (roots : List ℕ) (distincts : List Estimate) (i n : ℕ) (c : n ≡ u16_at s at) (rest : UnitedRest roots₀ distincts₀ roots distincts i) where
-    pub united_next : (first column to from : ℕ) (d kept : Estimate) (roots' : List ℕ) → i < n → first ≡ u16_at s (at + 28) → column ≡ u16_at s (at + 28 + 2 * i)
-        → to ≡ get_or roots first 0 → from ≡ get_or roots column 0 → to < length distincts → from < length distincts
-        → kept ≡ united (eqb to from) (get_or distincts to d) (get_or distincts from d) distinct → roots' ≡ map (moved from to) roots
-        → UnitedRest roots₀ distincts₀ roots' (set distincts to kept) (i + 1)
-    united_next first column to from d kept roots' h f g a b k l e m =
-        ap
-        (λ (state : EquivalenceClassState). united_from state (i + 1))
-        ((λ j. class_state (m j) (set distincts to (e j)))
-        ∙ union_step (class_state roots distincts) first column to from d distinct a b k l
-        ∙ λ j. union (class_state roots distincts) (f j) (g j) distinct)
-        ∙ united_step (class_state roots distincts) i (omega arith)
+  module _ (state₀ state : EquivalenceClassState) (i n : ℕ) (c : n ≡ u16_at s at) (rest : UnitedRest state₀ state i) where
+    pub united_next : (first column : ℕ) (state' : EquivalenceClassState) → i < n → first ≡ u16_at s (at + 28) → column ≡ u16_at s (at + 28 + 2 * i) → state' ≡ union state first column distinct
+        → UnitedRest state₀ state' (i + 1)
+    united_next first column state' h f g e =
+        ap (λ (t : EquivalenceClassState). united_from t (i + 1)) (e ∙ λ j. union state (f j) (g j) distinct)
+        ∙ united_step state i (omega arith)
         ∙ rest
 
-    pub united_all : n ≤ i → class_state roots distincts ≡ united_from (class_state roots₀ distincts₀) 1
+    pub united_all : n ≤ i → state ≡ united_from state₀ 1
     unfolding union_each
-    united_all h = ap (λ (l : List ℕ). union_each (class_state roots distincts) (u16_at s (at + 28)) l distinct) (sym (tabulate_end (class_column s at) i (u16_at s at) (omega arith))) ∙ rest
+    united_all h = ap (λ (l : List ℕ). union_each state (u16_at s (at + 28)) l distinct) (sym (tabulate_end (class_column s at) i (u16_at s at) (omega arith))) ∙ rest
 
 -- ---- the whole class
 
@@ -91,10 +83,10 @@ module _ (s : List ℕ) (at : ℕ) (state : EquivalenceClassState) where
     unfolding class_at class_head_at
     class_few h = few (u16_at s at) (class_at s at).distinct (omega arith)
 
-    pub class_many : (distinct : Estimate) (first own : ℕ) (roots : List ℕ) (distincts : List Estimate) → 2 ≤ n → distinct ≡ estimate_at s (at + 2) → first ≡ u16_at s (at + 28) → own ≡ get_or state.roots first 0
-        → class_state roots distincts ≡ united_from s at distinct (class_state state.roots (set state.distincts own distinct)) 1 → class_state roots distincts ≡ with_class_at
+    pub class_many : (distinct : Estimate) (first own : ℕ) (state' : EquivalenceClassState) → 2 ≤ n → distinct ≡ estimate_at s (at + 2) → first ≡ u16_at s (at + 28) → own ≡ get_or state.roots first 0
+        → state' ≡ united_from s at distinct (class_state state.roots (set state.distincts own distinct)) 1 → state' ≡ with_class_at
     unfolding class_at class_head_at overwritten
-    class_many distinct first own roots distincts h d f r e =
+    class_many distinct first own state' h d f r e =
         e
         ∙ (λ i. union_each (class_state state.roots (set state.distincts (root i) (d i))) (column i) (tabulate_from (class_column s at) 1 (u16_at s at - 1)) (d i))
         ∙ many (u16_at s at) (estimate_at s (at + 2)) (omega arith)

@@ -4,17 +4,17 @@ use mathlib.Core.Path.{◌≡◌, refl, sym, ap, ◌∙◌}
 use mathlib.Core.Bool.{Bool, true, false, cond}
 use mathlib.Core.List.{List, [], ◌∷◌}
 use native.Mathlib.Omega.{arith}
-use native.Mathlib.Nat.{zero-add}
+use native.Mathlib.Nat.{add-zero, zero-add}
 use native.Mathlib.Numerals.{add-one}
-use borrow.Author.Tests.{eqb-true, eqb-false, eq-eqb, ne_eqb, ltb-true, ltb-false}
+use borrow.Author.Tests.{eqb-true, eqb-false, ltb-true, ltb-false}
 use lib.Dec.{eqb, ltb, leb}
 use lib.ListN.{length, get_or, set, drop, replicate, get_or-replicate, get_or-eq_default, drop_of_length-le}
 use lib.Seq.{drop-cons, get_or-set_same, get_or-set_other, ext_get_or}
+use Rattle.std.specs.List.{fold, count_by}
 use Rattle.float.specs.Integers.{bit}
 use Rattle.records.specs.Lists.{tabulate_from, tabulate}
 use Rattle.records.proofs.ListLaws.{tabulate_length, tabulate_at}
 use Rattle.selection.specs.Selected.{selected}
-use Rattle.selection.proofs.SelectedLaws.{one_selected}
 use Rattle.layout.specs.Places.{column_limit}
 use Rattle.class_state.specs.State.{has_root, members, is_returned, returned_roots}
 use Rattle.class_state.specs.Sizes.{member_count, class_size, returned_size, sum_over, returned_count, counts_size}
@@ -38,6 +38,22 @@ module _ (f : ℕ → ℕ) (l : List ℕ) where
   pub sum_all : (sum i : ℕ) → length l ≤ i → SumRest sum i → sum ≡ sum_over f l
   unfolding sum_over
   sum_all sum i h r = let d = ap (sum_over f) (drop_of_length-le l h) in omega arith
+
+count_bits : (p : ℕ → Bool) (n : ℕ) (l : List ℕ) → fold (λ a x. a + cond (p x) 1 0) n l ≡ n + sum_over (λ (x : ℕ). bit (p x)) l
+unfolding sum_over
+count_bits p n [] = sym (add-zero n)
+count_bits p n (x ∷ l) =
+    let rest = count_bits p (n + cond (p x) 1 0) l in
+    let e = one (p x) in
+    omega arith
+  where
+    one : (b : Bool) → cond b 1 0 ≡ bit b
+    one true = refl
+    one false = refl
+
+-- how many elements pass a test, as a sum
+pub count_passing : (p : ℕ → Bool) (l : List ℕ) → count_by p l ≡ sum_over (λ (x : ℕ). bit (p x)) l
+count_passing p l = count_bits p 0 l ∙ zero-add (sum_over (λ (x : ℕ). bit (p x)) l)
 
 ones : (l : List ℕ) → sum_over (λ (x : ℕ). 1) l ≡ length l
 unfolding sum_over
@@ -129,12 +145,3 @@ module _ (roots : List ℕ) where
         one : (b : Bool) → bit b ≡ cond b 1 0
         one true = refl
         one false = refl
-
-  -- ---- one column's part of the members
-
-  module _ (root column r : ℕ) (e : r ≡ get_or roots column 0) where
-    pub member_taken : r ≡ root → column ∷ [] ≡ one_selected (has_root roots root) column
-    member_taken h = rw (eq-eqb (get_or roots column 0) root (sym e ∙ h)) refl
-
-    pub member_passed : (r ≡ root → ⊥) → [] ≡ one_selected (has_root roots root) column
-    member_passed h = rw (ne_eqb (get_or roots column 0) root (λ (k : get_or roots column 0 ≡ root). h (e ∙ k))) refl

@@ -76,8 +76,14 @@ overwrites_rooted : (state : EquivalenceClassState) (first : ℕ) (distinct : Es
 unfolding overwritten
 overwrites_rooted state first distinct rooted = rooted
 
+pub union_keeps : (state state' : EquivalenceClassState) (left right : ℕ) (distinct : Estimate) → state' ≡ union state left right distinct → Rooted state.roots → Rooted state'.roots
+union_keeps state state' left right distinct e rooted = subst RootedState (sym e) (union_rooted state left right distinct rooted)
+
 pub rooted_next : (state state' : EquivalenceClassState) (columns : List ℕ) (distinct : Estimate) → state' ≡ with_columns state columns distinct → Rooted state.roots → Rooted state'.roots
 rooted_next state state' columns distinct e rooted = subst RootedState (sym e) (columns_keep RootedState union_rooted overwrites_rooted state columns distinct rooted)
+
+pub rooted_classes : (state state' : EquivalenceClassState) (classes : List ColumnEquivalenceClass) → state' ≡ with_classes state classes → Rooted state.roots → Rooted state'.roots
+rooted_classes state state' classes e rooted = subst RootedState (sym e) (classes_keep RootedState union_rooted overwrites_rooted state classes rooted)
 
 module _ (sheet : Sheet) where
   apart_rooted : Rooted (apart sheet).roots

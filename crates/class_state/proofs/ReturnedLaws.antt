@@ -4,17 +4,15 @@ use mathlib.Core.Path.{◌≡◌, refl, sym, ap, ◌∙◌}
 use mathlib.Core.Bool.{Bool, true, false, cond}
 use mathlib.Core.List.{List, [], ◌∷◌, ◌++◌, map, append_assoc}
 use native.Mathlib.Omega.{arith}
-use borrow.Author.Tests.{le-leb, lt-leb, ltb-true, ltb-false}
-use lib.Dec.{leb, ltb}
-use lib.ListN.{length, take, drop, length-append, take-append-drop}
-use lib.Seq.{length-take-le}
+use borrow.Author.Tests.{le-leb, lt-leb}
+use lib.Dec.{leb}
+use lib.ListN.{length, take, drop, length-append}
 use Rattle.le.specs.Fields.{field_bytes, u16_bytes, onto}
-use Rattle.float.specs.Integers.{bit}
 use Rattle.estimate.specs.Bytes.{estimate_bytes}
 use Rattle.estimate.specs.declared.Estimate.{Estimate}
 use Rattle.estimate.proofs.EstimateLaws.{estimate_length}
 use Rattle.number_bytes.specs.Numbers.{numbers_bytes}
-use Rattle.number_bytes.proofs.FilledLaws.{Filled, filled_within, filled_room, filled_part, filled_next, filled_none, filled_length, filled_all}
+use Rattle.number_bytes.proofs.FilledLaws.{Filled, filled_within, filled_part, filled_first, filled_next, filled_none, filled_all}
 use Rattle.records.specs.Classes.{ColumnEquivalenceClass}
 use Rattle.selection.specs.Selected.{selected}
 use Rattle.selection.proofs.SelectedLaws.{selected_step, selected_end}
@@ -27,10 +25,6 @@ use Rattle.class_state.proofs.SizeLaws.{class_parts, class_length, classes_size,
 pub head_length : (count : ℕ) (d : Estimate) → length (u16_bytes count ++ estimate_bytes d) ≡ 28
 unfolding field_bytes
 head_length count d = length-append (u16_bytes count) (estimate_bytes d) ∙ ap (λ (n : ℕ). 2 + n) (estimate_length d)
-
-pub one_below : (b : Bool) (one : ℕ) → one ≡ bit b → one ≤ 1
-one_below true one e = omega arith
-one_below false one e = omega arith
 
 -- ---- one class, of a count that the code has tested
 
@@ -104,59 +98,46 @@ module _ (state : EquivalenceClassState) where
   unfolding classes_bytes
   bytes_left_none i h = ap (λ (l : List ℕ). classes_bytes (map (class_at_root state) l)) (selected_end (is_returned state.roots) i 128 h)
 
-  -- ---- a loop over the roots that writes their classes behind the first n bytes of a slice that held out₀
+  -- ---- a loop over the roots that writes their classes into a slice that held out₀
 
-  module _ (out₀ : List ℕ) (n : ℕ) where
+  module _ (out₀ : List ℕ) where
     -- where it stands at a root
     abbrev pub Returned : List ℕ → ℕ → ℕ → Type 0
-    Returned out at root = Filled bytes_left (take n out₀ ++ bytes_left 0) out₀ out at root
+    Returned out at root = Filled bytes_left (bytes_left 0) out₀ out at root
 
-    module _ (room : n + classes_size state.roots ≤ length out₀) where
-      front_length : length (take n out₀) ≡ n
-      front_length = length-take-le n out₀ (omega arith)
+    pub returned_first : Returned out₀ 0 0
+    returned_first = filled_first bytes_left (bytes_left 0) out₀ 0 refl
 
-      all_length : length (take n out₀ ++ bytes_left 0) ≡ n + classes_size state.roots
-      all_length =
-          let a = length-append (take n out₀) (bytes_left 0) in
-          let f = front_length in
+    module _ (out : List ℕ) (at root : ℕ) (r : Returned out at root) where
+      returned_all : bytes_left root ≡ [] → out ≡ onto (classes_bytes (into_classes state)) out₀
+      returned_all none = filled_all bytes_left _ out₀ out at root none r ∙ ap (λ (l : List ℕ). onto l out₀) bytes_left_first
+
+      -- nothing is left where all bytes are written, and behind the last root
+      pub returned_written : classes_size state.roots ≤ at → out ≡ onto (classes_bytes (into_classes state)) out₀
+      returned_written h = let a = bytes_left_size in returned_all (filled_none bytes_left _ out₀ out at root (omega arith) r)
+
+      pub returned_end : 128 ≤ root → out ≡ onto (classes_bytes (into_classes state)) out₀
+      returned_end h = returned_all (bytes_left_none root h)
+
+      -- the class at the root is one of all
+      pub returned_room : root < 128 → at + returned_size (member_count state.roots root) ≤ classes_size state.roots
+      returned_room below =
+          let a = ap length (sym r.left) ∙ length-append r.done (bytes_left root) in
+          let b = ap length (bytes_left_next root below) ∙ length-append (returned_bytes root) (bytes_left (root + 1)) in
+          let f = r.reached in
+          let l = returned_length root in
           let s = bytes_left_size in
           omega arith
 
-      all_room : length (take n out₀ ++ bytes_left 0) ≤ length out₀
-      all_room = let a = all_length in omega arith
+      module _ (room : classes_size state.roots ≤ length out₀) where
+        all_room : length (bytes_left 0) ≤ length out₀
+        all_room = let a = bytes_left_size in omega arith
 
-      pub returned_first : Returned out₀ n 0
-      unfolding onto
-      returned_first = record {
-        done = take n out₀;
-        placed = sym (take-append-drop n out₀) ∙ ap (λ (k : ℕ). take n out₀ ++ drop k out₀) (sym front_length);
-        reached = sym front_length;
-        left = refl;
-      }
-
-      module _ (out : List ℕ) (at root : ℕ) (r : Returned out at root) where
         pub returned_within : (length out ≡ length out₀) × (at ≤ length out)
         returned_within = filled_within bytes_left _ out₀ all_room out at root r
 
-        -- one that has not written all classes stands at a root below 128
-        pub returned_below : at < n + classes_size state.roots → root < 128
-        returned_below h = go (ltb root 128) (ltb-true root 128) (ltb-false root 128)
-          where
-            go : (t : Bool) → (t ≡ true → root < 128) → (t ≡ false → 128 ≤ root) → root < 128
-            go true x y = x refl
-            go false x y =
-                let l = filled_length bytes_left _ out₀ out at root (bytes_left_none root (y refl)) r in
-                let a = all_length in
-                absurd (omega arith)
-
         module _ (below : root < 128) where
-          -- there is room for the class at the root, also in the part that is lent for it
-          pub returned_room : at + returned_size (member_count state.roots root) ≤ length out
-          returned_room =
-              let m = filled_room bytes_left _ out₀ all_room out (returned_bytes root) at root r (bytes_left_next root below) in
-              let l = returned_length root in
-              omega arith
-
+          -- there is room for the class at the root in the part that is lent for it
           pub returned_part : returned_size (member_count state.roots root) ≤ length (take (length out - at) (drop at out))
           returned_part =
               let m = filled_part bytes_left _ out₀ all_room out (returned_bytes root) at root r (bytes_left_next root below) in
@@ -169,14 +150,3 @@ module _ (state : EquivalenceClassState) where
           returned_next Y k m distinct d e g y =
               filled_next bytes_left _ out₀ all_room out (returned_bytes root) at root r (bytes_left_next root below) Y k m (e ∙ sym (returned_length root)) g
               (y ∙ ap (λ (x : Estimate). onto (cond (is_returned state.roots root) (class_bytes (record { columns = members state.roots root; distinct = x })) []) (take k (drop at out))) d)
-
-        -- at the end all classes stand behind the first n bytes
-        module _ (end : n + classes_size state.roots ≤ at) where
-          none_left : bytes_left root ≡ []
-          none_left = let a = all_length in filled_none bytes_left _ out₀ out at root (omega arith) r
-
-          pub returned_end : at ≡ n + classes_size state.roots
-          returned_end = filled_length bytes_left _ out₀ out at root none_left r ∙ all_length
-
-          pub returned_all : out ≡ onto (take n out₀ ++ classes_bytes (into_classes state)) out₀
-          returned_all = filled_all bytes_left _ out₀ out at root none_left r ∙ ap (λ (l : List ℕ). onto (take n out₀ ++ l) out₀) bytes_left_first

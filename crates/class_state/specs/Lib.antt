@@ -1,3 +1,4 @@
 pub mod State
+pub mod Distincts
 pub mod Bytes
 pub mod Sizes

@@ -1,5 +1,5 @@
 -- `EquivalenceClassState` of the source's analysis.rs. Where the source keeps a parent for each column and follows it up, each column has its root here; columns that neither a class nor an equality names are alone and are not returned. Definitions only.
-use Rattle.std.specs.Prelude.{ℕ, ◌<◌, Bool, cond, List, [], ◌∷◌, map, eqb, leb, length, get_or, set}
+use Rattle.std.specs.Prelude.{ℕ, ◌<◌, Bool, cond, List, [], ◌∷◌, map, eqb, leb, length, get_or, set, Option, None, Some}
 use Rattle.float.specs.Order.{f64_zero}
 use Rattle.layout.specs.Places.{column_limit, class_least}
 use Rattle.estimate.specs.Estimates.{default, min_by_value}
@@ -7,7 +7,7 @@ use Rattle.estimate.specs.declared.Estimate.{Estimate}
 use Rattle.records.specs.Lists.{tabulate_from, tabulate, itself}
 use Rattle.records.specs.Classes.{ColumnEquivalenceClass}
 use Rattle.sheet.specs.Sheet.{Sheet}
-use Rattle.lookup.specs.Lookup.{ProfileAndRows, Absent, Present, profile_and_rows}
+use Rattle.lookup.specs.Lookup.{ProfileAndRows, profile_and_rows}
 use Rattle.selection.specs.Selected.{selected}
 use Rattle.class_state.specs.declared.EquivalenceClassState.{EquivalenceClassState}
 
@@ -67,9 +67,9 @@ unfoldable pub unknown_distinct : Sheet → Estimate
 unfolding default
 unknown_distinct sheet = default sheet.settings.unknown_column_ndv_cap
 
-abbrev pub own_distinct : Sheet → ProfileAndRows → Estimate
-own_distinct sheet Absent = unknown_distinct sheet
-own_distinct sheet (Present profile rows) = profile.distinct
+abbrev pub own_distinct : Sheet → Option ProfileAndRows → Estimate
+own_distinct sheet None = unknown_distinct sheet
+own_distinct sheet (Some (profile, rows)) = profile.distinct
 
 abbrev pub column_distinct : Sheet → ℕ → Estimate
 column_distinct sheet column = own_distinct sheet (profile_and_rows sheet column)

@@ -3,6 +3,7 @@ ghost use Rattle.std.specs.Prelude.{◌≡◌};
 ghost use Rattle.records.specs.Lists.{tabulate, itself};
 ghost use Rattle.sheet.specs.Sheet.{sheet_of};
 ghost use Rattle.layout.specs.Places.{column_limit};
+ghost use Rattle.class_state.specs.Distincts.{store_distincts};
 ghost use Rattle.class_state.specs.State.{unknown_distinct, apart};
 
 use crate::EquivalenceClassState;
@@ -19,10 +20,8 @@ fn own_roots() -> [u8; COLUMN_LIMIT]
     ensures { result ≡ tabulate itself column_limit }
 {
     let mut out = [0u8; COLUMN_LIMIT];
-    let mut i: usize = 0;
-    while i < COLUMN_LIMIT {
+    for i in 0..COLUMN_LIMIT {
         out[i] = i as u8;
-        i += 1;
     }
     out
 }
@@ -37,33 +36,31 @@ fn unknown_distinct(s: &[u8], q: Sections) -> Estimate
     ))
 }
 
-// Each side's profiles from the last to the first, and the left side behind the right one, so that the
-// first of a column is the one that stays.
+// The distincts of the profiles of a section, from the last to the first, so that the first of a
+// column is the one that stays.
+fn store_distincts(s: &[u8], section: u16, distincts: &mut [Estimate])
+    ensures { distincts.new ≡ store_distincts s.now section distincts.old }
+{
+    let start = section as usize;
+    for i in (0..u16_at(s, start) as usize).rev() {
+        let at = start + COUNT_SIZE + COLUMN_SIZE * i;
+        let column = u16_at(s, at) as usize;
+        if column < distincts.len() {
+            distincts[column] = estimate_at(s, at + COLUMN_DISTINCT_OFFSET);
+        }
+    }
+}
+
+// The left side goes behind the right one, so that its profiles are the ones that stay.
 pub fn apart(s: &[u8], q: Sections) -> EquivalenceClassState
     ensures { result ≡ apart (sheet_of s.now q) }
 {
-    let roots = own_roots();
     let unknown = unknown_distinct(s, q);
     let mut distincts = [unknown; COLUMN_LIMIT];
-    let right = q.right_columns as usize;
-    let mut i = u16_at(s, right) as usize;
-    while i > 0 {
-        i -= 1;
-        let at = right + COUNT_SIZE + COLUMN_SIZE * i;
-        let column = u16_at(s, at) as usize;
-        if column < COLUMN_LIMIT {
-            distincts[column] = estimate_at(s, at + COLUMN_DISTINCT_OFFSET);
-        }
+    store_distincts(s, q.right_columns, &mut distincts);
+    store_distincts(s, q.left_columns, &mut distincts);
+    EquivalenceClassState {
+        roots: own_roots(),
+        distincts,
     }
-    let left = q.left_columns as usize;
-    let mut j = u16_at(s, left) as usize;
-    while j > 0 {
-        j -= 1;
-        let at = left + COUNT_SIZE + COLUMN_SIZE * j;
-        let column = u16_at(s, at) as usize;
-        if column < COLUMN_LIMIT {
-            distincts[column] = estimate_at(s, at + COLUMN_DISTINCT_OFFSET);
-        }
-    }
-    EquivalenceClassState { roots, distincts }
 }

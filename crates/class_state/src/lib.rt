@@ -11,7 +11,8 @@ pub mod returned;
 pub mod slots;
 pub mod unions;
 
-// Of each column the column at its root, and of each root its class's distinct.
+// Of each column the column at its root, and of each root its class's distinct: two arrays, since
+// columns share a root.
 #[derive(Clone, Copy)]
 pub struct EquivalenceClassState {
     pub roots: [u8; COLUMN_LIMIT],

@@ -1,15 +1,16 @@
 // What is returned: the classes of two columns or more, ascending by the column at their root.
 ghost use Rattle.std.specs.Prelude.{◌≡◌, cond, [], ◌*◌, ◌≤◌, length};
 ghost use Rattle.le.specs.Fields.{onto};
+ghost use Rattle.records.specs.Lists.{tabulate};
 ghost use Rattle.layout.specs.Places.{column_limit};
-ghost use Rattle.class_state.specs.State.{members, is_returned};
-ghost use Rattle.class_state.specs.Bytes.{class_bytes};
+ghost use Rattle.class_state.specs.State.{members, is_returned, into_classes};
+ghost use Rattle.class_state.specs.Bytes.{class_bytes, classes_bytes};
 ghost use Rattle.class_state.specs.Sizes.{member_count, class_size, returned_size, size_at_root, returned_count, counts_size};
 
+use crate::EquivalenceClassState;
 use crate::members::put_members;
 use estimate::Estimate;
 use estimate::bytes::put_estimate;
-use float::integers::one_if;
 use layout::{CLASS_DISTINCT_OFFSET, CLASS_HEAD_SIZE, CLASS_LEAST, COLUMN_LIMIT, NUMBER_SIZE};
 use le::writes::put_u16;
 
@@ -18,13 +19,10 @@ pub fn returned_count(counts: &[u8]) -> usize
     requires { length counts.now ≡ column_limit }
     ensures { result ≡ returned_count counts.now }
 {
-    let mut n: usize = 0;
-    let mut root: usize = 0;
-    while root < COLUMN_LIMIT {
-        n += one_if(counts[root] >= CLASS_LEAST as u8) as usize;
-        root += 1;
-    }
-    n
+    counts
+        .iter()
+        .filter(|&&count| count >= CLASS_LEAST as u8)
+        .count()
 }
 
 // The bytes of a class of so many columns, none if it is not returned.
@@ -44,10 +42,8 @@ pub fn counts_size(counts: &[u8]) -> usize
     ensures upper_bound { result ≤ column_limit * class_size 255 }
 {
     let mut size: u32 = 0;
-    let mut root: usize = 0;
-    while root < COLUMN_LIMIT {
-        size += returned_size(counts[root]);
-        root += 1;
+    for count in counts {
+        size += returned_size(*count);
     }
     size as usize
 }
@@ -73,4 +69,25 @@ pub fn put_returned(roots: &[u8], distinct: Estimate, root: u8, count: u8, out: 
         return put_class(roots, distinct, root, count, out);
     }
     0
+}
+
+// All that are returned, where it is known how many bytes they take.
+pub fn put_classes(state: &EquivalenceClassState, counts: &[u8], size: usize, out: &mut [u8])
+    requires { (counts.now ≡ tabulate (member_count state.now.roots) column_limit) × (size ≡ counts_size counts.now) × (counts_size counts.now ≤ length out.old) }
+    ensures { out.new ≡ onto (classes_bytes (into_classes state.now)) out.old }
+{
+    let mut at: usize = 0;
+    for root in 0..COLUMN_LIMIT {
+        if at == size {
+            return;
+        }
+        let distinct = state.distincts[root];
+        at += put_returned(
+            &state.roots,
+            distinct,
+            root as u8,
+            counts[root],
+            &mut out[at..],
+        );
+    }
 }

@@ -4,9 +4,5 @@ ghost use Rattle.std.specs.Prelude.{◌≡◌, get_or};
 pub fn root_of(roots: &[u8], column: u16) -> u8
     ensures { result ≡ get_or roots.now column 0 }
 {
-    let i = column as usize;
-    if i < roots.len() {
-        return roots[i];
-    }
-    0
+    roots.get(column as usize).copied().unwrap_or(0)
 }

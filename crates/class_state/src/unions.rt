@@ -1,7 +1,9 @@
 // Two classes made one.
 ghost use Rattle.std.specs.Prelude.{◌≡◌, map};
-ghost use Rattle.class_state.specs.State.{moved, united};
+ghost use Rattle.class_state.specs.State.{moved, united, union, Rooted};
 
+use crate::EquivalenceClassState;
+use crate::slots::root_of;
 use estimate::Estimate;
 
 fn moved(from: u8, to: u8, root: u8) -> u8
@@ -13,10 +15,8 @@ fn moved(from: u8, to: u8, root: u8) -> u8
 fn move_each(roots: &mut [u8], from: u8, to: u8)
     ensures { roots.new ≡ map (moved from to) roots.old }
 {
-    let mut i: usize = 0;
-    while i < roots.len() {
-        roots[i] = moved(from, to, roots[i]);
-        i += 1;
+    for root in roots.iter_mut() {
+        *root = moved(from, to, *root);
     }
 }
 
@@ -39,4 +39,19 @@ pub fn united(same: bool, left: Estimate, right: Estimate, distinct: Estimate) -
         return left;
     }
     Estimate::min_by_value(Estimate::min_by_value(left, right), distinct)
+}
+
+impl EquivalenceClassState {
+    // The right column's class goes under the left one's root.
+    pub fn union(&mut self, left: u16, right: u16, distinct: Estimate)
+        requires { Rooted self.old.roots }
+        ensures { self.new ≡ union self.old left right distinct }
+    {
+        let to = root_of(&self.roots, left);
+        let from = root_of(&self.roots, right);
+        let there = self.distincts[to as usize];
+        let other = self.distincts[from as usize];
+        self.distincts[to as usize] = united(to == from, there, other, distinct);
+        move_roots(&mut self.roots, from, to);
+    }
 }

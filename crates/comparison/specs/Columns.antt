@@ -1,12 +1,12 @@
 -- `binary_selectivity` of the source's analysis.rs for two columns that are equated. Definitions only.
-use Rattle.std.specs.Prelude.{ℕ, Bool, cond, eqb, Float}
+use Rattle.std.specs.Prelude.{ℕ, Bool, cond, eqb, Float, Option, Some}
 use Rattle.std.specs.Float.{binary64}
 use Rattle.std.specs.Float.Ieee.{add, sub, mul, div}
 use Rattle.float.specs.Order.{f64_zero, f64_one, f64_max, clamp_unit}
 use Rattle.estimate.specs.declared.Estimate.{Estimate}
 use Rattle.records.specs.declared.columns.ColumnProfile.{ColumnProfile}
 use Rattle.sheet.specs.Sheet.{Sheet}
-use Rattle.lookup.specs.Lookup.{ProfileAndRows, Absent, Present, profile_and_rows}
+use Rattle.lookup.specs.Lookup.{ProfileAndRows, profile_and_rows}
 use Rattle.range.specs.Selectivity.{unit_estimate, default_estimate, non_null_fraction}
 
 -- a column and itself: only a null is not equal to itself, and null-safe it is
@@ -29,10 +29,9 @@ profiles_selectivity null_safe same left left_rows right right_rows =
     let right_non_null = non_null_fraction right.frequency.value right_rows in
     cond same (self_selectivity null_safe left_non_null) (pair_selectivity null_safe left_non_null right_non_null left.distinct.value right.distinct.value)
 
-abbrev pub found_columns : Sheet → Bool → Bool → ProfileAndRows → ProfileAndRows → Estimate
-found_columns sheet null_safe same Absent right = default_estimate sheet
-found_columns sheet null_safe same (Present left left_rows) Absent = default_estimate sheet
-found_columns sheet null_safe same (Present left left_rows) (Present right right_rows) = profiles_selectivity null_safe same left left_rows right right_rows
+abbrev pub found_columns : Sheet → Bool → Bool → Option ProfileAndRows → Option ProfileAndRows → Estimate
+found_columns sheet null_safe same (Some (left, left_rows)) (Some (right, right_rows)) = profiles_selectivity null_safe same left left_rows right right_rows
+found_columns sheet null_safe same _ _ = default_estimate sheet
 
 -- the default where either column has no profile
 unfoldable pub columns_selectivity : Sheet → Bool → ℕ → ℕ → Estimate

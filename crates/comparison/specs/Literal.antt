@@ -1,9 +1,8 @@
 -- `binary_selectivity` of the source's analysis.rs for a column and a literal. Definitions only.
-use Rattle.std.specs.Prelude.{ℕ, Bool, cond, Float}
+use Rattle.std.specs.Prelude.{ℕ, Bool, cond, Option, unwrap_or, Float, None, Some}
 use Rattle.std.specs.Float.{binary64}
 use Rattle.std.specs.Float.Ieee.{sub, mul, div}
 use Rattle.float.specs.Order.{f64_zero, f64_one, f64_max}
-use Rattle.float.specs.declared.option.OptionF64.{OptionF64}
 use Rattle.scalar.specs.Types.{is_null}
 use Rattle.scalar.specs.declared.Scalar.{Scalar}
 use Rattle.estimate.specs.Estimates.{exact}
@@ -13,13 +12,13 @@ use Rattle.records.specs.declared.expressions.BinaryOp.{BinaryOp}
 use Rattle.records.specs.declared.expressions.BinaryOp.TheVariants.{Eq, IsNotDistinctFrom, NotEq, Lt, LtEq, Gt, GtEq, Add, Subtract, Multiply, Divide}
 use Rattle.sheet.specs.Sheet.{Sheet}
 use Rattle.sketch.specs.Frequent.{frequent_value_selectivity}
-use Rattle.lookup.specs.Lookup.{ProfileAndRows, Absent, Present, profile_and_rows}
+use Rattle.lookup.specs.Lookup.{ProfileAndRows, profile_and_rows}
 use Rattle.range.specs.Selectivity.{unit_estimate, default_estimate, non_null_fraction}
 use Rattle.range.specs.Range.{range_selectivity}
 
 -- the sketch's figure where it has one; otherwise one of the distinct values
-abbrev pub equality_selectivity : OptionF64 → Float → Float → Float
-equality_selectivity frequent non_null distinct = cond frequent.present frequent.number (div binary64 non_null (f64_max distinct f64_one))
+abbrev pub equality_selectivity : Option Float → Float → Float → Float
+equality_selectivity frequent non_null distinct = unwrap_or frequent (div binary64 non_null (f64_max distinct f64_one))
 
 -- of a profile, against a literal
 abbrev pub equality_part : Sheet → ColumnProfile → Scalar → Float → Float
@@ -56,9 +55,9 @@ profile_selectivity sheet profile rows literal op =
     let non_null = non_null_fraction profile.frequency.value rows in
     unless_null (is_null literal) (comparison_selectivity sheet profile literal op non_null (equality_part sheet profile literal non_null))
 
-abbrev pub found_selectivity : Sheet → ProfileAndRows → Scalar → BinaryOp → Estimate
-found_selectivity sheet Absent literal op = default_estimate sheet
-found_selectivity sheet (Present profile rows) literal op = profile_selectivity sheet profile rows literal op
+abbrev pub found_selectivity : Sheet → Option ProfileAndRows → Scalar → BinaryOp → Estimate
+found_selectivity sheet None literal op = default_estimate sheet
+found_selectivity sheet (Some (profile, rows)) literal op = profile_selectivity sheet profile rows literal op
 
 -- the default where the column has no profile, also against Null
 unfoldable pub literal_selectivity : Sheet → ℕ → Scalar → BinaryOp → Estimate

@@ -1,28 +1,24 @@
 -- IS NULL and IS NOT NULL in `filter_selectivity_for_predicate` of the source's analysis.rs. Definitions only.
-use Rattle.std.specs.Prelude.{ℕ, false, cond, Float}
+use Rattle.std.specs.Prelude.{ℕ, false, Option, None, Some, Float}
 use Rattle.std.specs.Float.{binary64}
 use Rattle.std.specs.Float.Ieee.{round, sub, div}
 use Rattle.float.specs.Order.{f64_one, f64_max, clamp_unit}
-use Rattle.float.specs.Option.{some, none}
-use Rattle.float.specs.declared.option.OptionF64.{OptionF64}
 use Rattle.estimate.specs.declared.Estimate.{Estimate}
 use Rattle.records.specs.declared.expressions.UnaryOp.{UnaryOp}
 use Rattle.records.specs.declared.expressions.UnaryOp.TheVariants.{Not, IsNull, IsNotNull, Negate}
 use Rattle.sheet.specs.Sheet.{Sheet}
-use Rattle.lookup.specs.Lookup.{ProfileAndRows, Absent, Present, expression_of, profile_and_rows}
+use Rattle.lookup.specs.Lookup.{ProfileAndRows, expression_of, profile_and_rows}
 use Rattle.range.specs.Selectivity.{unit_estimate, default_estimate}
 use Rattle.parts.specs.Parts.{column_ref}
-use Rattle.parts.specs.declared.OptionColumn.{OptionColumn}
-use Rattle.parts.specs.declared.OptionColumn.TheVariants.{Absent as NoColumn, Present as Column}
 
-abbrev pub frequency_in : ProfileAndRows → OptionF64
-frequency_in Absent = none
-frequency_in (Present profile rows) = some profile.frequency.value
+abbrev pub frequency_in : Option ProfileAndRows → Option Float
+frequency_in None = None
+frequency_in (Some (profile, rows)) = Some profile.frequency.value
 
 -- the frequency of a column in either profile
-abbrev pub frequency_of : Sheet → OptionColumn → OptionF64
-frequency_of sheet NoColumn = none
-frequency_of sheet (Column column) = frequency_in (profile_and_rows sheet column)
+abbrev pub frequency_of : Sheet → Option ℕ → Option Float
+frequency_of sheet None = None
+frequency_of sheet (Some column) = frequency_in (profile_and_rows sheet column)
 
 -- the larger side's, and at least 1
 abbrev pub larger_rows : Sheet → Float
@@ -35,14 +31,16 @@ tenth = round binary64 false 1 10
 abbrev pub nine_tenths : Float
 nine_tenths = round binary64 false 9 10
 
-abbrev pub is_null_selectivity : OptionF64 → Float → Float
-is_null_selectivity frequency rows = cond frequency.present (sub binary64 f64_one (clamp_unit (div binary64 frequency.number rows))) tenth
+abbrev pub is_null_selectivity : Option Float → Float → Float
+is_null_selectivity None rows = tenth
+is_null_selectivity (Some frequency) rows = sub binary64 f64_one (clamp_unit (div binary64 frequency rows))
 
-abbrev pub is_not_null_selectivity : OptionF64 → Float → Float
-is_not_null_selectivity frequency rows = cond frequency.present (clamp_unit (div binary64 frequency.number rows)) nine_tenths
+abbrev pub is_not_null_selectivity : Option Float → Float → Float
+is_not_null_selectivity None rows = nine_tenths
+is_not_null_selectivity (Some frequency) rows = clamp_unit (div binary64 frequency rows)
 
 -- by the frequency and the rows; the other operators give the default
-abbrev pub unary_of : Sheet → UnaryOp → OptionF64 → Float → Estimate
+abbrev pub unary_of : Sheet → UnaryOp → Option Float → Float → Estimate
 unary_of sheet Not frequency rows = default_estimate sheet
 unary_of sheet IsNull frequency rows = unit_estimate (is_null_selectivity frequency rows)
 unary_of sheet IsNotNull frequency rows = unit_estimate (is_not_null_selectivity frequency rows)

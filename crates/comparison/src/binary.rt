@@ -6,19 +6,24 @@ ghost use Rattle.comparison.specs.Binary.{equality_or_default, binary_selectivit
 use crate::columns::columns_selectivity;
 use crate::literal::literal_selectivity;
 use estimate::Estimate;
-use parts::equalities::{ColumnEquality, column_equality_from_parts, is_null_safe};
+use parts::equalities::{EqualColumns, column_equality_from_parts, is_null_safe};
 use parts::literals::column_literal;
 use range::selectivity::default_estimate;
 use records::expressions::BinaryOp;
 use sheet::Sections;
 
-fn equality_or_default(s: &[u8], q: Sections, op: BinaryOp, columns: ColumnEquality) -> Estimate
+fn equality_or_default(
+    s: &[u8],
+    q: Sections,
+    op: BinaryOp,
+    columns: Option<EqualColumns>,
+) -> Estimate
     ensures { result ≡ equality_or_default (sheet_of s.now q) op columns }
 {
     match columns {
-        ColumnEquality::Absent => default_estimate(s, q),
-        ColumnEquality::Present { left, right } => {
-            columns_selectivity(s, q, is_null_safe(op), left, right)
+        None => default_estimate(s, q),
+        Some(columns) => {
+            columns_selectivity(s, q, is_null_safe(op), columns.left, columns.right)
         }
     }
 }
@@ -27,10 +32,8 @@ fn equality_or_default(s: &[u8], q: Sections, op: BinaryOp, columns: ColumnEqual
 pub fn binary_selectivity(s: &[u8], q: Sections, op: BinaryOp, left: u16, right: u16) -> Estimate
     ensures { result ≡ binary_selectivity (sheet_of s.now q) op left right }
 {
-    let pair = column_literal(s, q, op, left, right);
-    if pair.at != 0 {
-        let seen = pair.op;
-        return literal_selectivity(s, q, pair.column, pair.at, seen);
+    if let Some(pair) = column_literal(s, q, op, left, right) {
+        return literal_selectivity(s, q, pair.column, pair.at, pair.op);
     }
     equality_or_default(s, q, op, column_equality_from_parts(s, q, op, left, right))
 }

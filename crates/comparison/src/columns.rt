@@ -73,14 +73,12 @@ pub fn columns_selectivity(
 ) -> Estimate
     ensures { result ≡ columns_selectivity (sheet_of s.now q) null_safe left right }
 {
-    let first = profile_place(s, q, left);
-    if first.at == 0 {
+    let Some(first) = profile_place(s, q, left) else {
         return default_estimate(s, q);
-    }
-    let second = profile_place(s, q, right);
-    if second.at == 0 {
+    };
+    let Some(second) = profile_place(s, q, right) else {
         return default_estimate(s, q);
-    }
+    };
     let same = left == right;
     profiles_selectivity(
         s,

@@ -9,7 +9,6 @@ ghost use Rattle.sheet.specs.Sheet.{sheet_of};
 ghost use Rattle.comparison.specs.Literal.{equality_selectivity, equality_part, range_part, comparison_value, profile_selectivity, literal_selectivity};
 
 use estimate::Estimate;
-use float::option::OptionF64;
 use float::order::f64_max;
 use le::reads::byte_at;
 use lookup::profiles::{distinct_at, frequency_at, profile_place};
@@ -23,85 +22,55 @@ use scalar_bytes::reads::scalar_at;
 use sheet::Sections;
 use sketch::frequent_value_selectivity;
 
-fn equality_selectivity(frequent: OptionF64, non_null: f64, distinct: f64) -> f64
+fn equality_selectivity(frequent: Option<f64>, non_null: f64, distinct: f64) -> f64
     ensures { result ≡ equality_selectivity frequent non_null distinct }
 {
-    if frequent.present {
-        return frequent.number;
-    }
-    non_null / f64_max(distinct, 1.0)
+    frequent.unwrap_or(non_null / f64_max(distinct, 1.0))
 }
 
 // Whether the scalar at a place is Null.
 fn is_null_at(s: &[u8], at: usize) -> bool
     ensures { result ≡ is_null (scalar_at s.now at) }
 {
-    let tag = byte_at(s, at);
-    match tag {
-        1 => false,
-        2 => false,
-        3 => false,
-        4 => false,
-        5 => false,
-        6 => false,
-        8 => false,
-        9 => false,
-        _ => true,
-    }
+    !matches!(byte_at(s, at), 1..=6 | 8 | 9)
 }
 
-// Of the profile at a place that a column equals the scalar at a place.
-fn equality_part(s: &[u8], q: Sections, profile: usize, literal: usize, non_null: f64) -> f64
-    requires { (profile < 2 ^ 40) × (literal < 2 ^ 40) }
-    ensures { result ≡ equality_part (sheet_of s.now q) (column_profile_at s.now profile) (scalar_at s.now literal) non_null }
-{
-    let value = scalar_at(s, literal);
-    let frequent = frequent_value_selectivity(s, q.sketches, profile, value);
-    equality_selectivity(frequent, non_null, distinct_at(s, profile))
-}
-
-fn range_part(
-    s: &[u8],
-    settings: u16,
+// A column's profile and a literal, by their places, and the part of the rows that is not null.
+#[derive(Clone, Copy)]
+struct Compared {
     profile: usize,
     literal: usize,
-    op: BinaryOp,
     non_null: f64,
-) -> f64
-    requires { (profile < 2 ^ 40) × (literal < 2 ^ 40) }
-    ensures { result ≡ range_part (settings_at s.now (settings + count_size)).range_fallback_selectivity (column_profile_at s.now profile) (scalar_at s.now literal) op non_null }
+    ghost near: { (profile < 2 ^ 40) × (literal < 2 ^ 40) },
+}
+
+// That the column equals the literal.
+fn equality_part(s: &[u8], q: Sections, x: Compared) -> f64
+    ensures { result ≡ equality_part (sheet_of s.now q) (column_profile_at s.now x.profile) (scalar_at s.now x.literal) x.non_null }
+{
+    let value = scalar_at(s, x.literal);
+    let frequent = frequent_value_selectivity(s, q.sketches, x.profile, value);
+    equality_selectivity(frequent, x.non_null, distinct_at(s, x.profile))
+}
+
+fn range_part(s: &[u8], settings: u16, x: Compared, op: BinaryOp) -> f64
+    ensures { result ≡ range_part (settings_at s.now (settings + count_size)).range_fallback_selectivity (column_profile_at s.now x.profile) (scalar_at s.now x.literal) op x.non_null }
 {
     let fallback = range_fallback_selectivity(s, settings);
-    range_selectivity(s, profile, literal, op, fallback).value * non_null
+    range_selectivity(s, x.profile, x.literal, op, fallback).value * x.non_null
 }
 
 // The value before it is held to its bounds. The sketch is asked only by the operators that need it.
-fn comparison_value(
-    s: &[u8],
-    q: Sections,
-    profile: usize,
-    literal: usize,
-    op: BinaryOp,
-    non_null: f64,
-) -> f64
-    requires { (profile < 2 ^ 40) × (literal < 2 ^ 40) }
-    ensures { result ≡ comparison_value (sheet_of s.now q) (column_profile_at s.now profile) (scalar_at s.now literal) op non_null (equality_part (sheet_of s.now q) (column_profile_at s.now profile) (scalar_at s.now literal) non_null) }
+fn comparison_value(s: &[u8], q: Sections, x: Compared, op: BinaryOp) -> f64
+    ensures { result ≡ comparison_value (sheet_of s.now q) (column_profile_at s.now x.profile) (scalar_at s.now x.literal) op x.non_null (equality_part (sheet_of s.now q) (column_profile_at s.now x.profile) (scalar_at s.now x.literal) x.non_null) }
 {
     match op {
-        BinaryOp::Eq => equality_part(s, q, profile, literal, non_null),
-        BinaryOp::IsNotDistinctFrom => default_predicate_selectivity(s, q),
-        BinaryOp::NotEq => {
-            let equality = equality_part(s, q, profile, literal, non_null);
-            f64_max(non_null - equality, 0.0)
+        BinaryOp::Eq => equality_part(s, q, x),
+        BinaryOp::NotEq => f64_max(x.non_null - equality_part(s, q, x), 0.0),
+        BinaryOp::Lt | BinaryOp::LtEq | BinaryOp::Gt | BinaryOp::GtEq => {
+            range_part(s, q.settings, x, op)
         }
-        BinaryOp::Lt => range_part(s, q.settings, profile, literal, BinaryOp::Lt, non_null),
-        BinaryOp::LtEq => range_part(s, q.settings, profile, literal, BinaryOp::LtEq, non_null),
-        BinaryOp::Gt => range_part(s, q.settings, profile, literal, BinaryOp::Gt, non_null),
-        BinaryOp::GtEq => range_part(s, q.settings, profile, literal, BinaryOp::GtEq, non_null),
-        BinaryOp::Add => default_predicate_selectivity(s, q),
-        BinaryOp::Subtract => default_predicate_selectivity(s, q),
-        BinaryOp::Multiply => default_predicate_selectivity(s, q),
-        BinaryOp::Divide => default_predicate_selectivity(s, q),
+        _ => default_predicate_selectivity(s, q),
     }
 }
 
@@ -120,8 +89,12 @@ fn profile_selectivity(
     if is_null_at(s, literal) {
         return Estimate::exact(0.0);
     }
-    let non_null = non_null_fraction(frequency_at(s, profile), rows);
-    unit_estimate(comparison_value(s, q, profile, literal, op, non_null))
+    let compared = Compared {
+        profile,
+        literal,
+        non_null: non_null_fraction(frequency_at(s, profile), rows),
+    };
+    unit_estimate(comparison_value(s, q, compared, op))
 }
 
 // A column against the scalar at a place.
@@ -135,9 +108,8 @@ pub fn literal_selectivity(
     requires { literal < 2 ^ 40 }
     ensures { result ≡ literal_selectivity (sheet_of s.now q) column (scalar_at s.now literal) op }
 {
-    let found = profile_place(s, q, column);
-    if found.at == 0 {
-        return default_estimate(s, q);
+    match profile_place(s, q, column) {
+        Some(found) => profile_selectivity(s, q, found.at, found.rows, literal, op),
+        None => default_estimate(s, q),
     }
-    profile_selectivity(s, q, found.at, found.rows, literal, op)
 }

@@ -5,30 +5,26 @@ ghost use Rattle.lookup.specs.Lookup.{profile_and_rows};
 ghost use Rattle.comparison.specs.Unary.{frequency_in, frequency_of, larger_rows, is_null_selectivity, is_not_null_selectivity, unary_of, unary_selectivity};
 
 use estimate::Estimate;
-use float::option::{OptionF64, none, some};
 use float::order::{clamp_unit, f64_max};
 use lookup::profiles::{frequency_at, left_rows, profile_place, right_rows};
-use parts::{OptionColumn, column_ref};
+use parts::column_ref;
 use range::selectivity::{default_estimate, unit_estimate};
 use records::expressions::UnaryOp;
 use sheet::Sections;
 
-fn column_frequency(s: &[u8], q: Sections, column: u16) -> OptionF64
+fn column_frequency(s: &[u8], q: Sections, column: u16) -> Option<f64>
     ensures { result ≡ frequency_in (profile_and_rows (sheet_of s.now q) column) }
 {
-    let found = profile_place(s, q, column);
-    if found.at == 0 {
-        return none();
-    }
-    some(frequency_at(s, found.at))
+    let found = profile_place(s, q, column)?;
+    Some(frequency_at(s, found.at))
 }
 
-fn frequency_of(s: &[u8], q: Sections, column: OptionColumn) -> OptionF64
+fn frequency_of(s: &[u8], q: Sections, column: Option<u16>) -> Option<f64>
     ensures { result ≡ frequency_of (sheet_of s.now q) column }
 {
     match column {
-        OptionColumn::Absent => none(),
-        OptionColumn::Present(column) => column_frequency(s, q, column),
+        None => None,
+        Some(column) => column_frequency(s, q, column),
     }
 }
 
@@ -38,32 +34,31 @@ fn larger_rows(s: &[u8], q: Sections) -> f64
     f64_max(f64_max(left_rows(s, q), right_rows(s, q)), 1.0)
 }
 
-fn is_null_selectivity(frequency: OptionF64, rows: f64) -> f64
+fn is_null_selectivity(frequency: Option<f64>, rows: f64) -> f64
     ensures { result ≡ is_null_selectivity frequency rows }
 {
-    if frequency.present {
-        return 1.0 - clamp_unit(frequency.number / rows);
+    match frequency {
+        Some(frequency) => 1.0 - clamp_unit(frequency / rows),
+        None => 0.1,
     }
-    0.1
 }
 
-fn is_not_null_selectivity(frequency: OptionF64, rows: f64) -> f64
+fn is_not_null_selectivity(frequency: Option<f64>, rows: f64) -> f64
     ensures { result ≡ is_not_null_selectivity frequency rows }
 {
-    if frequency.present {
-        return clamp_unit(frequency.number / rows);
+    match frequency {
+        Some(frequency) => clamp_unit(frequency / rows),
+        None => 0.9,
     }
-    0.9
 }
 
-fn unary_of(s: &[u8], q: Sections, op: UnaryOp, frequency: OptionF64, rows: f64) -> Estimate
+fn unary_of(s: &[u8], q: Sections, op: UnaryOp, frequency: Option<f64>, rows: f64) -> Estimate
     ensures { result ≡ unary_of (sheet_of s.now q) op frequency rows }
 {
     match op {
-        UnaryOp::Not => default_estimate(s, q),
+        UnaryOp::Not | UnaryOp::Negate => default_estimate(s, q),
         UnaryOp::IsNull => unit_estimate(is_null_selectivity(frequency, rows)),
         UnaryOp::IsNotNull => unit_estimate(is_not_null_selectivity(frequency, rows)),
-        UnaryOp::Negate => default_estimate(s, q),
     }
 }
 

@@ -5,14 +5,11 @@ use mathlib.Core.List.{List}
 use native.Mathlib.Omega.{arith}
 use lib.ListN.{length}
 use Rattle.le.specs.Fields.{onto}
-use Rattle.sheet.specs.Check.{sheet_refusal}
+use Rattle.sheet.specs.Check.{Checked, sheet_refusal}
 use Rattle.sheet.specs.Sheet.{sheet_in, conjuncts_in}
-use Rattle.sheet.specs.declared.Checked.{Checked}
 use Rattle.sheet.proofs.AcceptedLaws.{accepted_back}
 use Rattle.join.specs.Join.{join_selectivity_from_conjuncts}
-use Rattle.answers.specs.Answers.{bytes, answer_number, sheet_result}
-use Rattle.answers.specs.declared.Answer.{Answer}
-use Rattle.answers.specs.declared.Answer.TheVariants.{Refused, Written}
+use Rattle.answers.specs.Answers.{Answer, Refused, Written, bytes, answer_number, sheet_result}
 use Rattle.answers.proofs.AnswerLaws.{fitting, comes_as}
 use Rattle.join_answer.specs.Join.{join_bytes, join_result}
 use Rattle.demand.specs.Demand.{AcceptedJoin}

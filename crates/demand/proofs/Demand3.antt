@@ -8,15 +8,12 @@ use lib.Dec.{leb}
 use lib.ListN.{length, take, drop}
 use lib.Seq.{take_at}
 use Rattle.le.specs.Fields.{onto}
-use Rattle.sheet.specs.Check.{sheet_refusal, check}
+use Rattle.sheet.specs.Check.{Checked, Refused as SheetRefused, Accepted, sheet_refusal, check}
 use Rattle.sheet.specs.Sheet.{sheet_in, conjuncts_in}
-use Rattle.sheet.specs.declared.Checked.{Checked}
-use Rattle.sheet.specs.declared.Checked.TheVariants.{Refused as SheetRefused, Accepted}
 use Rattle.sheet.proofs.AcceptedLaws.{accepted}
 use Rattle.join.specs.Join.{join_selectivity_from_conjuncts}
-use Rattle.answers.specs.Answers.{Result, refusal, bytes, answered, leaves, sheet_result}
+use Rattle.answers.specs.Answers.{Refused, Written, Result, refusal, bytes, answered, leaves, sheet_result}
 use Rattle.join_answer.specs.Join.{join_bytes, join_result}
-use Rattle.answers.specs.declared.Answer.TheVariants.{Refused, Written}
 use Rattle.demand.specs.Claim.{OneJoin}
 use Rattle.demand.specs.Demand.{AcceptedJoin, returned, join_in, Demand3}
 use Rattle.demand.proofs.KeptLaws.{kept}

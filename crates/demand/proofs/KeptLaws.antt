@@ -26,8 +26,8 @@ use Rattle.lawful.proofs.ExpressionLaws.{by_test}
 use Rattle.lawful.proofs.LawfulLaws.{left_classes_law, right_classes_law, conjunct_count_law}
 use Rattle.lookup.specs.Lookup.{expression_of}
 use Rattle.parts.specs.Parts.{column_ref, is_null_safe, both_columns, column_equality_from_parts, equality_in, column_equality}
-use Rattle.parts.specs.declared.OptionColumn.{OptionColumn}
-use Rattle.parts.specs.declared.OptionColumn.TheVariants.{Absent, Present}
+use Rattle.parts.specs.declared.equalities.EqualColumns.{EqualColumns}
+use Rattle.std.specs.Prelude.{Option, None, Some, option_map, option_to_list}
 use Rattle.equality_pairs.specs.Pairs.{null_safe_in, pair_of, equality_pair, equality_pairs}
 use Rattle.equality_pairs.specs.declared.pairs.EqualityPair.{EqualityPair}
 use Rattle.demand.specs.Claim.{op_of, Join, Equates}
@@ -48,7 +48,11 @@ record Reads (sheet : Sheet) (x : Expression) (p : EqualityPair) : Type 0 where
 abbrev Parts : BinaryOp → Expression → Expression → EqualityPair → Type 0
 Parts op l r p = (op ≡ op_of p.null_safe) × (l ≡ ColumnRef p.left) × (r ≡ ColumnRef p.right)
 
-columns_read : (null_safe : Bool) (l r : Expression) (p : EqualityPair) → Memᴰ p (pair_of null_safe (both_columns (column_ref l) (column_ref r))) → Parts (op_of null_safe) l r p
+-- one, or none
+abbrev pair_list : Bool → Option EqualColumns → List EqualityPair
+pair_list null_safe columns = option_to_list (option_map (pair_of null_safe) columns)
+
+columns_read : (null_safe : Bool) (l r : Expression) (p : EqualityPair) → Memᴰ p (pair_list null_safe (both_columns (column_ref l) (column_ref r))) → Parts (op_of null_safe) l r p
 columns_read null_safe (Literal value) r p m = absurd (mathlib.Core.List.Memᴰ.not-nil m)
 columns_read null_safe (Unary op expr) r p m = absurd (mathlib.Core.List.Memᴰ.not-nil m)
 columns_read null_safe (Binary op left right) r p m = absurd (mathlib.Core.List.Memᴰ.not-nil m)
@@ -65,7 +69,7 @@ columns_read null_safe (ColumnRef a) (ColumnRef b) p m =
     let e : record { left = a; right = b; null_safe = null_safe } ≡ p = sym (mathlib.Core.List.Memᴰ.eq_of_singleton m) in
     (ap (λ (q : EqualityPair). op_of q.null_safe) e, ap (λ (q : EqualityPair). ColumnRef q.left) e, ap (λ (q : EqualityPair). ColumnRef q.right) e)
 
-parts_read : (op : BinaryOp) (l r : Expression) (p : EqualityPair) → Memᴰ p (pair_of (is_null_safe op) (column_equality_from_parts op l r)) → Parts op l r p
+parts_read : (op : BinaryOp) (l r : Expression) (p : EqualityPair) → Memᴰ p (pair_list (is_null_safe op) (column_equality_from_parts op l r)) → Parts op l r p
 unfolding column_equality_from_parts
 parts_read Eq l r p m = columns_read false l r p m
 parts_read IsNotDistinctFrom l r p m = columns_read true l r p m
@@ -79,7 +83,7 @@ parts_read Subtract l r p m = absurd (mathlib.Core.List.Memᴰ.not-nil m)
 parts_read Multiply l r p m = absurd (mathlib.Core.List.Memᴰ.not-nil m)
 parts_read Divide l r p m = absurd (mathlib.Core.List.Memᴰ.not-nil m)
 
-equality_read : (sheet : Sheet) (x : Expression) (p : EqualityPair) → Memᴰ p (pair_of (null_safe_in x) (equality_in sheet x)) → Reads sheet x p
+equality_read : (sheet : Sheet) (x : Expression) (p : EqualityPair) → Memᴰ p (pair_list (null_safe_in x) (equality_in sheet x)) → Reads sheet x p
 equality_read sheet (Literal value) p m = absurd (mathlib.Core.List.Memᴰ.not-nil m)
 equality_read sheet (ColumnRef column) p m = absurd (mathlib.Core.List.Memᴰ.not-nil m)
 equality_read sheet (Unary op expr) p m = absurd (mathlib.Core.List.Memᴰ.not-nil m)
@@ -90,33 +94,33 @@ equality_read sheet (Binary op left right) p m =
     let h = parts_read op (expression_of sheet left) (expression_of sheet right) p m in
     record { left = left; right = right; binary = ap (λ (o : BinaryOp). Binary o left right) h.0; left_column = h.1; right_column = h.2 }
 
-parts_given : (p : EqualityPair) (op : BinaryOp) (l r : Expression) → Parts op l r p → Memᴰ p (pair_of (is_null_safe op) (column_equality_from_parts op l r))
+parts_given : (p : EqualityPair) (op : BinaryOp) (l r : Expression) → Parts op l r p → Memᴰ p (pair_list (is_null_safe op) (column_equality_from_parts op l r))
 unfolding column_equality_from_parts
 parts_given p op l r (e, f, g) = rw (e, f, g) (given p.null_safe)
   where
-    given : (t : Bool) → Memᴰ (record { left = p.left; right = p.right; null_safe = t }) (pair_of (is_null_safe (op_of t)) (column_equality_from_parts (op_of t) (ColumnRef p.left) (ColumnRef p.right)))
+    given : (t : Bool) → Memᴰ (record { left = p.left; right = p.right; null_safe = t }) (pair_list (is_null_safe (op_of t)) (column_equality_from_parts (op_of t) (ColumnRef p.left) (ColumnRef p.right)))
     given true = mathlib.Core.List.Memᴰ.head refl
     given false = mathlib.Core.List.Memᴰ.head refl
 
-equality_given : (sheet : Sheet) (x : Expression) (p : EqualityPair) → Reads sheet x p → Memᴰ p (pair_of (null_safe_in x) (equality_in sheet x))
+equality_given : (sheet : Sheet) (x : Expression) (p : EqualityPair) → Reads sheet x p → Memᴰ p (pair_list (null_safe_in x) (equality_in sheet x))
 equality_given sheet x p h =
-    subst (λ (y : Expression). Memᴰ p (pair_of (null_safe_in y) (equality_in sheet y))) (sym h.binary)
+    subst (λ (y : Expression). Memᴰ p (pair_list (null_safe_in y) (equality_in sheet y))) (sym h.binary)
     (parts_given p (op_of p.null_safe) (expression_of sheet h.left) (expression_of sheet h.right) (refl, h.left_column, h.right_column))
 
 pair_from : (sheet : Sheet) (es : List ℕ) (p : EqualityPair) → Memᴰ p (equality_pairs sheet es) → (e : ℕ) × Memᴰ e es × Reads sheet (expression_of sheet e) p
 unfolding equality_pairs equality_pair column_equality
 pair_from sheet [] p m = absurd (mathlib.Core.List.Memᴰ.not-nil m)
 pair_from sheet (e ∷ es) p m =
-    ⊎_elim (λ (k : Memᴰ p (equality_pair sheet e)). (e, mathlib.Core.List.Memᴰ.head refl, equality_read sheet (expression_of sheet e) p k))
+    ⊎_elim (λ (k : Memᴰ p (option_to_list (equality_pair sheet e))). (e, mathlib.Core.List.Memᴰ.head refl, equality_read sheet (expression_of sheet e) p k))
     (λ (k : Memᴰ p (equality_pairs sheet es)). let r = pair_from sheet es p k in (r.0, mathlib.Core.List.Memᴰ.tail r.1, r.2))
-    (mathlib.Core.List.Memᴰ.append_cases (equality_pair sheet e) m)
+    (mathlib.Core.List.Memᴰ.append_cases (option_to_list (equality_pair sheet e)) m)
 
 pair_to : (sheet : Sheet) (es : List ℕ) (p : EqualityPair) (e : ℕ) → Memᴰ e es → Reads sheet (expression_of sheet e) p → Memᴰ p (equality_pairs sheet es)
 unfolding equality_pairs equality_pair column_equality
 pair_to sheet [] p e m h = absurd (mathlib.Core.List.Memᴰ.not-nil m)
 pair_to sheet (d ∷ es) p e m h =
-    ⊎_elim (λ (q : e ≡ d). mathlib.Core.List.Memᴰ.append_left (equality_pairs sheet es) (subst (λ (c : ℕ). Memᴰ p (equality_pair sheet c)) q (equality_given sheet (expression_of sheet e) p h)))
-    (λ (k : Memᴰ e es). mathlib.Core.List.Memᴰ.append_right (equality_pair sheet d) (pair_to sheet es p e k h))
+    ⊎_elim (λ (q : e ≡ d). mathlib.Core.List.Memᴰ.append_left (equality_pairs sheet es) (subst (λ (c : ℕ). Memᴰ p (option_to_list (equality_pair sheet c))) q (equality_given sheet (expression_of sheet e) p h)))
+    (λ (k : Memᴰ e es). mathlib.Core.List.Memᴰ.append_right (option_to_list (equality_pair sheet d)) (pair_to sheet es p e k h))
     (mathlib.Core.List.Memᴰ.cases_cons m)
 
 pub pairs_law : (join : Join) (p : EqualityPair) → Memᴰ p (equality_pairs join.sheet join.conjuncts) ↔ Equates join p.left p.right p.null_safe
@@ -128,9 +132,9 @@ pairs_law join p = (
 -- ---- what acceptance gives
 
 -- no column, or one below 128
-abbrev NoneOrBelow : OptionColumn → Type 0
-NoneOrBelow Absent = Unit {0}
-NoneOrBelow (Present column) = column < 128
+abbrev NoneOrBelow : Option ℕ → Type 0
+NoneOrBelow None = Unit {0}
+NoneOrBelow (Some column) = column < 128
 
 abbrev ColumnBelow : Expression → Type 0
 ColumnBelow x = NoneOrBelow (column_ref x)

@@ -1,9 +1,8 @@
 -- Demand 3 for calls of `estimates::join`: any two that were given a length and no refusal number. Definitions only.
 use Rattle.std.specs.Prelude.{ℕ, List, take}
 use Rattle.sheet.specs.Sheet.{sheet_in, conjuncts_in}
-use Rattle.answers.specs.Answers.{Comes}
+use Rattle.answers.specs.Answers.{Written, Comes}
 use Rattle.join_answer.specs.Join.{join_result}
-use Rattle.answers.specs.declared.Answer.TheVariants.{Written}
 use Rattle.demand.specs.Claim.{Join, TwoJoins}
 
 -- a call of `join`: the bytes of its sheet and the output that it was lent; `comes` is the entry's contract

@@ -1,26 +1,21 @@
 -- Worked equalities: those that document 01 marks, at one edge, and a foreign key. Assumes nothing.
-use Rattle.std.specs.Prelude.{ℕ, ◌≡◌, refl, Bool, true, false, List, [], ◌∷◌, pos, negsuc, Float}
+use Rattle.std.specs.Prelude.{ℕ, ◌≡◌, refl, Bool, true, false, List, [], ◌∷◌, pos, negsuc, Float, Some, None}
 use Rattle.std.specs.Float.{binary64, fin}
 use Rattle.std.specs.Float.Ieee.{round, of_int, add, sub, mul, div, lt, le, eq}
 use Rattle.float.specs.Order.{f64_zero, f64_one}
-use Rattle.float.specs.Option.{none}
 use Rattle.scalar.specs.Order.{scalar_order}
 use Rattle.scalar.specs.declared.Scalar.TheVariants.{Int32}
-use Rattle.scalar.specs.declared.Bound.TheVariants.{Absent, Present}
 use Rattle.estimate.specs.Estimates.{estimate_of, max_by_value}
 use Rattle.estimate.specs.declared.Estimate.{Estimate}
 use Rattle.estimate.specs.declared.EstimateSource.TheVariants.{Catalog}
+use Rattle.records.specs.Columns.{column_of}
 use Rattle.records.specs.declared.catalog.Key.{Key}
 use Rattle.records.specs.declared.catalog.Key.TheVariants.{Foreign}
-use Rattle.records.specs.declared.catalog.RowCount.TheVariants.{Known}
-use Rattle.records.specs.declared.columns.BaseColumn.TheVariants.{Absent as NoBase, Present as Base}
-use Rattle.records.specs.declared.columns.SketchNumber.TheVariants.{Absent as NoSketch}
 use Rattle.records.specs.declared.columns.ColumnProfile.{ColumnProfile}
 use Rattle.sheet.specs.Sheet.{Sheet}
 use Rattle.edge.specs.Edge.{equality_edge_estimate}
 use Rattle.edge.specs.declared.EqualityEdge.{EqualityEdge}
 use Rattle.edge.specs.declared.EqualityEdgeEstimate.{EqualityEdgeEstimate}
-use Rattle.edge.specs.declared.LeftCoverage.TheVariants.{Absent as NoCoverage, Present as Coverage}
 
 abbrev number : ℕ → Float
 number n = of_int binary64 (pos n)
@@ -30,18 +25,18 @@ abbrev hundredths : ℕ → Float
 hundredths n = round binary64 false n 100
 
 abbrev figure : ℕ → Estimate
-figure n = estimate_of (number n) none none Catalog
+figure n = estimate_of (number n) None None Catalog
 
 -- how often a column is not null, and its distinct values
 abbrev profile_of : ℕ → ℕ → ℕ → ColumnProfile
 profile_of column frequency distinct = record {
   column = column;
-  base = NoBase;
-  lower = Absent;
-  upper = Absent;
+  base = None;
+  lower = None;
+  upper = None;
   frequency = figure frequency;
   distinct = figure distinct;
-  sketch = NoSketch;
+  sketch = None;
 }
 
 -- 100 rows on the left and 50 on the right, the whole of table 8
@@ -57,7 +52,7 @@ sheet_with left right keys = record {
     unknown_column_ndv_cap = number 100;
   };
   sketches = [];
-  tables = record { table = 7; rows = Known 400 } ∷ record { table = 8; rows = Known 50 } ∷ [];
+  tables = record { table = 7; rows = Some 400 } ∷ record { table = 8; rows = Some 50 } ∷ [];
   keys = keys;
   left_columns = left ∷ [];
   right_columns = right ∷ [];
@@ -84,7 +79,7 @@ plain = sheet_with (profile_of 1 100 10) (profile_of 2 50 25) []
 ordinary : equality_edge_estimate plain (edge 1 2 false 10 25) ≡ record {
   pair_selectivity = hundredths 4;
   left_match_probability = f64_one;
-  left_coverage = Coverage (record {
+  left_coverage = Some (record {
     column = 1;
     input_distinct = number 10;
     input_non_null_fraction = f64_one;
@@ -102,7 +97,7 @@ ordinary = refl
 exchanged : equality_edge_estimate plain (edge 2 1 false 40 16) ≡ record {
   pair_selectivity = round binary64 false 25 1000;
   left_match_probability = f64_one;
-  left_coverage = Coverage (record {
+  left_coverage = Some (record {
     column = 1;
     input_distinct = number 16;
     input_non_null_fraction = f64_one;
@@ -120,7 +115,7 @@ exchanged = refl
 not_found : equality_edge_estimate plain (edge 1 3 false 10 100) ≡ record {
   pair_selectivity = hundredths 10;
   left_match_probability = f64_one;
-  left_coverage = NoCoverage;
+  left_coverage = None;
   domains_disjoint = false;
 }
 unfolding equality_edge_estimate of_int round add sub mul div lt le eq
@@ -130,7 +125,7 @@ not_found = refl
 null_safe_law : equality_edge_estimate (sheet_with (profile_of 1 75 8) (profile_of 2 25 4) []) (edge 1 2 true 8 4) ≡ record {
   pair_selectivity = fin false 11 (negsuc 5);
   left_match_probability = fin false 5 (negsuc 2);
-  left_coverage = Coverage (record {
+  left_coverage = Some (record {
     column = 1;
     input_distinct = number 8;
     input_non_null_fraction = hundredths 75;
@@ -149,9 +144,9 @@ null_safe_law = refl
 abbrev based : ColumnProfile → ℕ → ℕ → ℕ → ColumnProfile
 based p table low high = record {
   column = p.column;
-  base = Base table 0;
-  lower = Present (Int32 (pos low));
-  upper = Present (Int32 (pos high));
+  base = Some (column_of table 0);
+  lower = Some (Int32 (pos low));
+  upper = Some (Int32 (pos high));
   frequency = p.frequency;
   distinct = p.distinct;
   sketch = p.sketch;
@@ -161,13 +156,13 @@ based p table low high = record {
 abbrev referring : ℕ → ℕ → ℕ → ℕ → EqualityEdgeEstimate
 referring low high other_low other_high =
     equality_edge_estimate
-    (sheet_with (based (profile_of 1 75 10) 7 low high) (based (profile_of 2 50 25) 8 other_low other_high) (Foreign 7 0 8 0 ∷ []))
+    (sheet_with (based (profile_of 1 75 10) 7 low high) (based (profile_of 2 50 25) 8 other_low other_high) (Foreign (column_of 7 0) (column_of 8 0) ∷ []))
     (edge 1 2 false 10 25)
 
 disjoint : referring 0 9 10 19 ≡ record {
   pair_selectivity = f64_zero;
   left_match_probability = f64_zero;
-  left_coverage = Coverage (record {
+  left_coverage = Some (record {
     column = 1;
     input_distinct = number 10;
     input_non_null_fraction = hundredths 75;
@@ -185,7 +180,7 @@ disjoint = refl
 reference : referring 0 9 9 19 ≡ record {
   pair_selectivity = round binary64 false 15 1000;
   left_match_probability = hundredths 75;
-  left_coverage = Coverage (record {
+  left_coverage = Some (record {
     column = 1;
     input_distinct = number 10;
     input_non_null_fraction = hundredths 75;

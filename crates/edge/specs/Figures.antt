@@ -1,13 +1,11 @@
 -- The figures of an equality, case by case (`equality_edge_estimate` in the source's analysis.rs). Definitions only.
-use Rattle.std.specs.Prelude.{Bool, true, false, ◌||◌, not, cond, Float}
+use Rattle.std.specs.Prelude.{Bool, true, false, ◌||◌, not, cond, Option, None, Some, unwrap_or, Float}
 use Rattle.std.specs.Float.{binary64}
 use Rattle.std.specs.Float.Ieee.{add, mul, div, lt, le}
 use Rattle.float.specs.Order.{f64_zero, f64_max, clamp_unit}
-use Rattle.float.specs.declared.option.OptionF64.{OptionF64}
 use Rattle.edge.specs.declared.EdgeInputs.{EdgeInputs}
 use Rattle.edge.specs.declared.EqualityEdgeEstimate.{EqualityEdgeEstimate}
 use Rattle.edge.specs.declared.LeftEqualityCoverage.{LeftEqualityCoverage}
-use Rattle.edge.specs.declared.LeftCoverage.TheVariants.{Present as Coverage}
 
 -- ---- what an equality leaves of its left column
 
@@ -28,7 +26,7 @@ unfoldable pub disjoint_estimate : EdgeInputs → EqualityEdgeEstimate
 disjoint_estimate x = record {
   pair_selectivity = x.null_pair_selectivity;
   left_match_probability = x.null_match_probability;
-  left_coverage = Coverage (coverage x f64_zero f64_zero x.null_match_probability (not x.null_safe));
+  left_coverage = Some (coverage x f64_zero f64_zero x.null_match_probability (not x.null_safe));
   domains_disjoint = not (lt f64_zero x.null_pair_selectivity);
 }
 
@@ -41,7 +39,7 @@ unfoldable pub foreign_key_estimate : EdgeInputs → Float → EqualityEdgeEstim
 foreign_key_estimate x right_rows = record {
   pair_selectivity = per_row x.left_non_null right_rows;
   left_match_probability = x.left_non_null;
-  left_coverage = Coverage (coverage x x.left_distinct x.left_non_null f64_zero true);
+  left_coverage = Some (coverage x x.left_distinct x.left_non_null f64_zero true);
   domains_disjoint = false;
 }
 
@@ -60,22 +58,20 @@ unfoldable pub uniform_non_null_match_probability : EdgeInputs → Float → Flo
 uniform_non_null_match_probability x intersection =
     cond (le x.left_distinct f64_zero) f64_zero (div binary64 (mul binary64 x.left_non_null intersection) x.left_distinct)
 
-abbrev pub or_else_float : OptionF64 → Float → Float
-or_else_float option other = cond option.present option.number other
-
 -- the larger of a sketch's figure and the uniform one
-abbrev pub at_least_uniform : OptionF64 → Float → Float
-at_least_uniform option uniform = cond option.present (f64_max option.number uniform) uniform
+abbrev pub at_least_uniform : Option Float → Float → Float
+at_least_uniform None uniform = uniform
+at_least_uniform (Some figure) uniform = f64_max figure uniform
 
 -- with what sketches tell of the pair and of the match; of a null-safe equality they are not asked
-unfoldable pub overlap_estimate : EdgeInputs → Float → OptionF64 → OptionF64 → EqualityEdgeEstimate
+unfoldable pub overlap_estimate : EdgeInputs → Float → Option Float → Option Float → EqualityEdgeEstimate
 unfolding uniform_pair_selectivity uniform_non_null_match_probability
 overlap_estimate x intersection sketch_pair sketch_match =
-    let pair = or_else_float sketch_pair (uniform_pair_selectivity x intersection) in
+    let pair = unwrap_or sketch_pair (uniform_pair_selectivity x intersection) in
     let non_null_match = at_least_uniform sketch_match (uniform_non_null_match_probability x intersection) in
     record {
       pair_selectivity = clamp_unit pair;
       left_match_probability = clamp_unit (add binary64 non_null_match x.null_match_probability);
-      left_coverage = Coverage (coverage x intersection non_null_match x.null_match_probability (not x.null_safe));
+      left_coverage = Some (coverage x intersection non_null_match x.null_match_probability (not x.null_safe));
       domains_disjoint = false;
     }

@@ -1,11 +1,9 @@
 // The figures of an equality, case by case.
 ghost use Rattle.std.specs.Prelude.{◌≡◌};
-ghost use Rattle.edge.specs.Figures.{coverage, disjoint_estimate, per_row, foreign_key_estimate, equal_non_null, uniform_pair_selectivity, uniform_non_null_match_probability, or_else_float, at_least_uniform, overlap_estimate};
+ghost use Rattle.edge.specs.Figures.{coverage, disjoint_estimate, per_row, foreign_key_estimate, equal_non_null, uniform_pair_selectivity, uniform_non_null_match_probability, at_least_uniform, overlap_estimate};
 
-use crate::{EdgeInputs, EqualityEdgeEstimate, LeftCoverage, LeftEqualityCoverage};
-use float::option::OptionF64;
+use crate::{EdgeInputs, EqualityEdgeEstimate, LeftEqualityCoverage};
 use float::order::{clamp_unit, f64_max};
-use rules::either;
 
 // What an equality leaves of its left column.
 fn coverage(
@@ -36,13 +34,7 @@ pub fn disjoint_estimate(x: EdgeInputs) -> EqualityEdgeEstimate
     EqualityEdgeEstimate {
         pair_selectivity: x.null_pair_selectivity,
         left_match_probability: x.null_match_probability,
-        left_coverage: LeftCoverage::Present(coverage(
-            x,
-            0.0,
-            0.0,
-            x.null_match_probability,
-            !x.null_safe,
-        )),
+        left_coverage: Some(coverage(x, 0.0, 0.0, x.null_match_probability, !x.null_safe)),
         domains_disjoint: !nulls_can_match,
     }
 }
@@ -63,13 +55,7 @@ pub fn foreign_key_estimate(x: EdgeInputs, right_rows: f64) -> EqualityEdgeEstim
     EqualityEdgeEstimate {
         pair_selectivity: per_row(x.left_non_null, right_rows),
         left_match_probability: x.left_non_null,
-        left_coverage: LeftCoverage::Present(coverage(
-            x,
-            x.left_distinct,
-            x.left_non_null,
-            0.0,
-            true,
-        )),
+        left_coverage: Some(coverage(x, x.left_distinct, x.left_non_null, 0.0, true)),
         domains_disjoint: false,
     }
 }
@@ -77,7 +63,7 @@ pub fn foreign_key_estimate(x: EdgeInputs, right_rows: f64) -> EqualityEdgeEstim
 fn equal_non_null(x: EdgeInputs, intersection: f64) -> f64
     ensures { result ≡ equal_non_null x intersection }
 {
-    if either(x.left_distinct <= 0.0, x.right_distinct <= 0.0) {
+    if x.left_distinct <= 0.0 || x.right_distinct <= 0.0 {
         return 0.0;
     }
     x.left_non_null * x.right_non_null * intersection / (x.left_distinct * x.right_distinct)
@@ -102,40 +88,31 @@ fn uniform_non_null_match_probability(x: EdgeInputs, intersection: f64) -> f64
     x.left_non_null * intersection / x.left_distinct
 }
 
-fn or_else_float(option: OptionF64, other: f64) -> f64
-    ensures { result ≡ or_else_float option other }
-{
-    if option.present {
-        return option.number;
-    }
-    other
-}
-
-fn at_least_uniform(option: OptionF64, uniform: f64) -> f64
+fn at_least_uniform(option: Option<f64>, uniform: f64) -> f64
     ensures { result ≡ at_least_uniform option uniform }
 {
-    if option.present {
-        return f64_max(option.number, uniform);
+    match option {
+        Some(figure) => f64_max(figure, uniform),
+        None => uniform,
     }
-    uniform
 }
 
 // Every other equality, with what sketches tell of the pair and of the match.
 pub fn overlap_estimate(
     x: EdgeInputs,
     intersection: f64,
-    sketch_pair: OptionF64,
-    sketch_match: OptionF64,
+    sketch_pair: Option<f64>,
+    sketch_match: Option<f64>,
 ) -> EqualityEdgeEstimate
     ensures { result ≡ overlap_estimate x intersection sketch_pair sketch_match }
 {
-    let pair = or_else_float(sketch_pair, uniform_pair_selectivity(x, intersection));
+    let pair = sketch_pair.unwrap_or(uniform_pair_selectivity(x, intersection));
     let uniform_match = uniform_non_null_match_probability(x, intersection);
     let non_null_match = at_least_uniform(sketch_match, uniform_match);
     EqualityEdgeEstimate {
         pair_selectivity: clamp_unit(pair),
         left_match_probability: clamp_unit(non_null_match + x.null_match_probability),
-        left_coverage: LeftCoverage::Present(coverage(
+        left_coverage: Some(coverage(
             x,
             intersection,
             non_null_match,

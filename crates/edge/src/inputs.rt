@@ -1,7 +1,7 @@
 // What the figures of an equality between a left and a right column are made from.
-ghost use Rattle.std.specs.Prelude.{◌≡◌};
+ghost use Rattle.std.specs.Prelude.{◌≡◌, Some};
 ghost use Rattle.sheet.specs.Sheet.{sheet_of};
-ghost use Rattle.lookup.specs.Lookup.{Present, left_profile, right_profile, column_place};
+ghost use Rattle.lookup.specs.Lookup.{left_profile, right_profile, column_place};
 ghost use Rattle.edge.specs.Inputs.{null_pair_selectivity, null_match_probability, edge_inputs};
 
 use crate::places::placed_fraction;
@@ -13,7 +13,6 @@ use keys::effective_join_distinct;
 use layout::{COUNT_SIZE, ESTIMATE_SIZE};
 use range::selectivity::non_null_fraction;
 use records::columns::ColumnProfile;
-use rules::both;
 use sheet::Sections;
 
 fn left_rows_estimate(s: &[u8], q: Sections) -> Estimate
@@ -51,11 +50,11 @@ pub fn edge_inputs(
     s: &[u8],
     q: Sections,
     edge: EqualityEdge,
-    right_in_left: u32,
+    right_in_left: Option<u32>,
     left: ColumnProfile,
     right: ColumnProfile,
 ) -> EdgeInputs
-    requires { (left_profile (sheet_of s.now q) edge.left ≡ Present left (sheet_of s.now q).left_rows.value) × (right_profile (sheet_of s.now q) edge.right ≡ Present right (sheet_of s.now q).right_rows.value) × (right_in_left ≡ column_place s.now q.left_columns edge.right) }
+    requires { (left_profile (sheet_of s.now q) edge.left ≡ Some (left, (sheet_of s.now q).left_rows.value)) × (right_profile (sheet_of s.now q) edge.right ≡ Some (right, (sheet_of s.now q).right_rows.value)) × (right_in_left ≡ column_place s.now q.left_columns edge.right) }
     ensures { result ≡ edge_inputs (sheet_of s.now q) edge.left edge.right left right edge.null_safe edge.left_ndv.value edge.right_ndv.value }
 {
     let left_rows = left_rows_estimate(s, q);
@@ -78,7 +77,8 @@ pub fn edge_inputs(
     );
     let left_has_null = left.frequency.value < left_rows.value;
     let right_has_null = right.frequency.value < right_rows.value;
-    let both_have_null = both(edge.null_safe, both(left_has_null, right_has_null));
+    let null_can_match = edge.null_safe && right_has_null;
+    let both_have_null = null_can_match && left_has_null;
     EdgeInputs {
         left_column: edge.left,
         null_safe: edge.null_safe,
@@ -87,9 +87,6 @@ pub fn edge_inputs(
         left_non_null,
         right_non_null,
         null_pair_selectivity: null_pair_selectivity(both_have_null, left_non_null, right_non_null),
-        null_match_probability: null_match_probability(
-            both(edge.null_safe, right_has_null),
-            left_non_null,
-        ),
+        null_match_probability: null_match_probability(null_can_match, left_non_null),
     }
 }

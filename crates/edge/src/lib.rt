@@ -2,22 +2,22 @@
 // two inputs comes to.
 #![tactic(auto)]
 
-ghost use Rattle.std.specs.Prelude.{◌≡◌, true};
+ghost use Rattle.std.specs.Prelude.{◌≡◌, Some};
 ghost use Rattle.records.specs.Columns.{column_profile_at};
 ghost use Rattle.sheet.specs.Sheet.{sheet_of};
+ghost use Rattle.lookup.specs.Lookup.{column_place};
 ghost use Rattle.sketch_join.specs.SketchJoin.{sketch_join_estimate, sketch_left_match_probability};
-ghost use Rattle.edge.specs.Places.{edge_places, both_placed};
+ghost use Rattle.edge.specs.Places.{edge_places};
 ghost use Rattle.edge.specs.Edge.{unoriented_estimate, references_whole, bases_referenced, is_reference, unless_null_safe, estimate_by_sketches, estimate_by_inputs, oriented_estimate, equality_edge_estimate, exchanged_edge};
 
 use estimate::Estimate;
 use figures::{disjoint_estimate, foreign_key_estimate, overlap_estimate};
-use float::option::{OptionF64, none};
 use float::order::{clamp_unit, f64_max};
 use inputs::{edge_inputs, right_rows_estimate};
 use interval::intersection::{DistinctIntersection, estimated_distinct_intersection};
 use keys::{profile_has_complete_base_population, single_column_foreign_key};
 use lookup::profiles::{left_rows, right_rows};
-use places::{EdgePlaces, both_placed, exchanged_places, placed_distinct};
+use places::{EdgePlaces, placed_distinct};
 use records::columns::{BaseColumn, ColumnProfile, column_profile_at};
 use sheet::Sections;
 use sketch_join::{sketch_join_estimate, sketch_left_match_probability};
@@ -62,16 +62,10 @@ pub struct LeftEqualityCoverage {
 }
 
 #[derive(Clone, Copy)]
-pub enum LeftCoverage {
-    Absent,
-    Present(LeftEqualityCoverage),
-}
-
-#[derive(Clone, Copy)]
 pub struct EqualityEdgeEstimate {
     pub pair_selectivity: f64,
     pub left_match_probability: f64,
-    pub left_coverage: LeftCoverage,
+    pub left_coverage: Option<LeftEqualityCoverage>,
     pub domains_disjoint: bool,
 }
 
@@ -83,54 +77,47 @@ fn unoriented_estimate(s: &[u8], q: Sections, first: f64, second: f64) -> Equali
     EqualityEdgeEstimate {
         pair_selectivity,
         left_match_probability: clamp_unit(right_rows(s, q) * pair_selectivity),
-        left_coverage: LeftCoverage::Absent,
+        left_coverage: None,
         domains_disjoint: false,
     }
 }
 
 // Whether a column references another one of a table that the right side has the whole of.
-fn references_whole(
+fn references_whole(s: &[u8], q: Sections, column: BaseColumn, referenced: BaseColumn) -> bool
+    ensures { result ≡ references_whole (sheet_of s.now q) column referenced }
+{
+    if single_column_foreign_key(s, q, column, referenced) {
+        let rows = right_rows_estimate(s, q);
+        return profile_has_complete_base_population(s, q, rows, referenced.table);
+    }
+    false
+}
+
+fn bases_referenced(
     s: &[u8],
     q: Sections,
-    table: u16,
-    column: u16,
-    referenced_table: u16,
-    referenced_column: u16,
+    left: Option<BaseColumn>,
+    right: Option<BaseColumn>,
 ) -> bool
-    ensures { result ≡ references_whole (sheet_of s.now q) table column referenced_table referenced_column }
-{
-    if single_column_foreign_key(s, q, table, column, referenced_table, referenced_column) {
-        let rows = right_rows_estimate(s, q);
-        return profile_has_complete_base_population(s, q, rows, referenced_table);
-    }
-    false
-}
-
-fn bases_referenced(s: &[u8], q: Sections, left: BaseColumn, right: BaseColumn) -> bool
     ensures { result ≡ bases_referenced (sheet_of s.now q) left right }
 {
-    match left {
-        BaseColumn::Absent => false,
-        BaseColumn::Present { table, column } => match right {
-            BaseColumn::Absent => false,
-            BaseColumn::Present {
-                table: referenced_table,
-                column: referenced_column,
-            } => references_whole(s, q, table, column, referenced_table, referenced_column),
-        },
+    match (left, right) {
+        (Some(column), Some(referenced)) => references_whole(s, q, column, referenced),
+        _ => false,
     }
 }
 
-fn is_reference(s: &[u8], q: Sections, null_safe: bool, left: BaseColumn, right: BaseColumn) -> bool
+#[tactic(auto, unfolding(crate::specs::Edge::is_reference))]
+fn is_reference(
+    s: &[u8],
+    q: Sections,
+    null_safe: bool,
+    left: Option<BaseColumn>,
+    right: Option<BaseColumn>,
+) -> bool
     ensures { result ≡ is_reference (sheet_of s.now q) null_safe left right }
 {
-    if null_safe {
-        return false;
-    }
-    if 0.0 < right_rows(s, q) {
-        return bases_referenced(s, q, left, right);
-    }
-    false
+    !null_safe && 0.0 < right_rows(s, q) && bases_referenced(s, q, left, right)
 }
 
 // What sketches tell of a pair of rows. Of a null-safe equality they are not asked.
@@ -140,11 +127,11 @@ fn sketch_pair(
     null_safe: bool,
     left: ColumnProfile,
     right: ColumnProfile,
-) -> OptionF64
+) -> Option<f64>
     ensures { result ≡ unless_null_safe null_safe (sketch_join_estimate (sheet_of s.now q).sketches left (sheet_of s.now q).left_rows.value right (sheet_of s.now q).right_rows.value) }
 {
     if null_safe {
-        return none();
+        return None;
     }
     sketch_join_estimate(
         s,
@@ -165,11 +152,11 @@ fn sketch_match(
     right: ColumnProfile,
     intersection: f64,
     left_distinct: f64,
-) -> OptionF64
+) -> Option<f64>
     ensures { result ≡ unless_null_safe null_safe (sketch_left_match_probability (sheet_of s.now q).sketches left (sheet_of s.now q).left_rows.value right intersection left_distinct) }
 {
     if null_safe {
-        return none();
+        return None;
     }
     sketch_left_match_probability(
         s,
@@ -227,19 +214,22 @@ fn estimate_by_inputs(
     estimate_by_sketches(s, q, x, left, right, intersection.distinct)
 }
 
-// A column of the left input and one of the right.
+// A column of the left input and one of the right, by their places there, and the right one's place
+// in the left input.
 fn oriented_estimate(
     s: &[u8],
     q: Sections,
     edge: EqualityEdge,
-    places: EdgePlaces,
+    left_at: u32,
+    right_at: u32,
+    right_in_left: Option<u32>,
 ) -> EqualityEdgeEstimate
-    requires { (places ≡ edge_places s.now q edge.left edge.right) × (both_placed places.left_in_left places.right_in_right ≡ true) }
-    ensures { result ≡ oriented_estimate (sheet_of s.now q) edge.left edge.right (column_profile_at s.now places.left_in_left) (column_profile_at s.now places.right_in_right) edge.null_safe edge.left_ndv.value edge.right_ndv.value }
+    requires { (Some left_at ≡ column_place s.now q.left_columns edge.left) × (Some right_at ≡ column_place s.now q.right_columns edge.right) × (right_in_left ≡ column_place s.now q.left_columns edge.right) }
+    ensures { result ≡ oriented_estimate (sheet_of s.now q) edge.left edge.right (column_profile_at s.now left_at) (column_profile_at s.now right_at) edge.null_safe edge.left_ndv.value edge.right_ndv.value }
 {
-    let left = column_profile_at(s, places.left_in_left as usize);
-    let right = column_profile_at(s, places.right_in_right as usize);
-    let x = edge_inputs(s, q, edge, places.right_in_left, left, right);
+    let left = column_profile_at(s, left_at as usize);
+    let right = column_profile_at(s, right_at as usize);
+    let x = edge_inputs(s, q, edge, right_in_left, left, right);
     let intersection = estimated_distinct_intersection(
         left,
         right,
@@ -275,11 +265,11 @@ pub fn equality_edge_estimate(
     requires { places ≡ edge_places s.now q edge.left edge.right }
     ensures { result ≡ equality_edge_estimate (sheet_of s.now q) edge }
 {
-    if both_placed(places.left_in_left, places.right_in_right) {
-        return oriented_estimate(s, q, edge, places);
+    if let Some((left, right)) = places.left_in_left.zip(places.right_in_right) {
+        return oriented_estimate(s, q, edge, left, right, places.right_in_left);
     }
-    if both_placed(places.right_in_left, places.left_in_right) {
-        return oriented_estimate(s, q, exchanged_edge(edge), exchanged_places(places));
+    if let Some((left, right)) = places.right_in_left.zip(places.left_in_right) {
+        return oriented_estimate(s, q, exchanged_edge(edge), left, right, places.left_in_left);
     }
     let first = placed_distinct(s, places.left_in_left, places.left_in_right);
     let second = placed_distinct(s, places.right_in_left, places.right_in_right);

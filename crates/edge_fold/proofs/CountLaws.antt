@@ -3,6 +3,7 @@ use Prim.Native.Nat.{◌+◌, ◌≤◌}
 use mathlib.Core.Bool.{Bool, true, false, cond}
 use mathlib.Core.List.{List, [], ◌∷◌, map}
 use native.Mathlib.Omega.{arith}
+use Rattle.std.specs.Prelude.{Option, None, Some, option_to_list}
 use lib.ListN.{length, length-append, length-map}
 use Rattle.sheet.specs.Sheet.{Sheet}
 use Rattle.class_state.specs.State.{equivalent, from_profiles}
@@ -11,17 +12,16 @@ use Rattle.equality_pairs.specs.NonNull.{non_null_marks}
 use Rattle.edge_order.proofs.SortLaws.{sort_length}
 use Rattle.edge.specs.Edge.{equality_edge_estimate}
 use Rattle.edge.specs.declared.EqualityEdge.{EqualityEdge}
-use Rattle.edge.specs.declared.LeftCoverage.{LeftCoverage}
-use Rattle.edge.specs.declared.LeftCoverage.TheVariants.{Absent, Present}
+use Rattle.edge.specs.declared.LeftEqualityCoverage.{LeftEqualityCoverage}
 use Rattle.edge_fold.specs.Sides.{connects_inputs}
 use Rattle.edge_fold.specs.Edges.{edge_of, edge_before, equality_edges}
-use Rattle.edge_fold.specs.Fold.{Folded, no_equality, coverage_of, coverage_unless, edge_coverages, with_edge, with_edges, folded_pairs}
+use Rattle.edge_fold.specs.Fold.{Folded, no_equality, coverage_unless, edge_coverages, with_edge, with_edges, folded_pairs}
 
-one_coverage : (coverage : LeftCoverage) → length (coverage_of coverage) ≤ 1
-one_coverage Absent = omega arith
-one_coverage (Present coverage) = omega arith
+one_coverage : (coverage : Option LeftEqualityCoverage) → length (option_to_list coverage) ≤ 1
+one_coverage None = omega arith
+one_coverage (Some coverage) = omega arith
 
-edge_coverage : (sheet : Sheet) (edge : EqualityEdge) (same : Bool) → length (edge_coverages sheet edge same) ≤ 1
+pub edge_coverage : (sheet : Sheet) (edge : EqualityEdge) (same : Bool) → length (edge_coverages sheet edge same) ≤ 1
 unfolding edge_coverages
 edge_coverage sheet edge same = go (connects_inputs sheet edge.left edge.right) same
   where

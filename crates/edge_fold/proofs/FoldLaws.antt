@@ -1,7 +1,7 @@
 -- Edges folded one by one. Assumes nothing.
 use Prim.Native.Nat.{ℕ, ◌+◌, ◌≤◌, ◌<◌}
 use mathlib.Core.Path.{◌≡◌, refl, sym, ap, ◌∙◌}
-use mathlib.Core.Bool.{Bool, true, false, cond}
+use mathlib.Core.Bool.{Bool, true, false}
 use mathlib.Core.List.{List, [], ◌++◌, map}
 use native.Mathlib.Omega.{arith}
 use native.Mathlib.Numerals.{add-one}
@@ -14,15 +14,14 @@ use Rattle.class_state.specs.declared.EquivalenceClassState.{EquivalenceClassSta
 use Rattle.edge.specs.Edge.{equality_edge_estimate}
 use Rattle.edge.specs.declared.EqualityEdge.{EqualityEdge}
 use Rattle.edge.specs.declared.EqualityEdgeEstimate.{EqualityEdgeEstimate}
-use Rattle.edge.specs.declared.LeftCoverage.{LeftCoverage}
-use Rattle.edge.specs.declared.LeftCoverage.TheVariants.{Absent, Present}
 use Rattle.edge.specs.declared.LeftEqualityCoverage.{LeftEqualityCoverage}
 use Rattle.edge_fold.specs.Sides.{connects_inputs}
-use Rattle.edge_fold.specs.Fold.{Folded, no_equality, with_estimate, coverage_of, coverage_unless, edge_figures, edge_coverages, with_edge, with_edges}
+use Rattle.edge_fold.specs.Fold.{Folded, no_equality, with_estimate, coverage_unless, edge_figures, edge_coverages, with_edge, with_edges}
 use Rattle.edge_fold.specs.Coverages.{coverages_bytes, Appended}
 use Rattle.edge_fold.specs.declared.fold.EqualityFigures.{EqualityFigures}
 use Rattle.edge_fold.specs.declared.fold.EqualityTotals.{EqualityTotals}
 use Rattle.edge_fold.proofs.CoverageLaws.{appended_onto}
+use Rattle.edge_fold.proofs.CountLaws.{edge_coverage}
 
 module _ (sheet : Sheet) where
   -- ---- one edge's part
@@ -48,20 +47,6 @@ module _ (sheet : Sheet) where
 
   -- ---- one edge after others
 
-  -- an edge has one coverage at most
-  covers : (edge : EqualityEdge) (same : Bool) → length (edge_coverages sheet edge same) ≤ 1
-  unfolding edge_coverages
-  covers edge same = go (connects_inputs sheet edge.left edge.right) same (equality_edge_estimate sheet edge).left_coverage
-    where
-      one : (c : LeftCoverage) → length (coverage_of c) ≤ 1
-      one Absent = omega arith
-      one (Present coverage) = omega arith
-
-      go : (t same : Bool) (c : LeftCoverage) → length (cond t (cond same [] (coverage_of c)) []) ≤ 1
-      go true true c = omega arith
-      go true false c = one c
-      go false same c = omega arith
-
   abbrev pub folded : EquivalenceClassState → EqualityFigures → List LeftEqualityCoverage → Folded
   folded classes figures coverages = record { classes = classes; figures = figures; coverages = coverages }
 
@@ -85,7 +70,7 @@ module _ (sheet : Sheet) where
           let f : totals'.figures ≡ edge_figures sheet totals.figures edge same = ap (λ (x : EqualityTotals). x.figures) g in
           let n : totals'.coverages ≡ totals.coverages + length (edge_coverages sheet edge same) = ap (λ (x : EqualityTotals). x.coverages) g in
           let b = appended_onto r.coverages (edge_coverages sheet edge same) out₀ out out' totals.coverages totals'.coverages r.bytes r.count n a in
-          let c = covers edge same in
+          let c = edge_coverage sheet edge same in
           let few = r.few in
           let one : folded classes' totals'.figures (r.coverages ++ edge_coverages sheet edge same) ≡ with_edge sheet (folded classes totals.figures r.coverages) edge
           = (λ k. folded (u k) (f k) (r.coverages ++ edge_coverages sheet edge same))

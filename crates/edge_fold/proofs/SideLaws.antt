@@ -3,7 +3,7 @@ use Prim.Native.Nat.{ℕ}
 use mathlib.Core.Path.{◌≡◌, refl}
 use mathlib.Core.Bool.{not, ◌&&◌, beq}
 use mathlib.Core.List.{List}
-use lib.Dec.{eqb}
+use Rattle.std.specs.Prelude.{is_some}
 use Rattle.le.specs.Fields.{u16_at}
 use Rattle.layout.specs.Places.{column_size}
 use Rattle.records.specs.Columns.{column_profile_at}
@@ -20,7 +20,7 @@ front : (s : List ℕ) (at : ℕ) → (column_profile_at s at).column ≡ u16_at
 unfolding column_profile_at
 front s at = refl
 
-has_is : (s : List ℕ) (start column : ℕ) → not (eqb (column_place s start column) 0) ≡ has_column column (records_in Columns column_profile_at s start)
+has_is : (s : List ℕ) (start column : ℕ) → is_some (column_place s start column) ≡ has_column column (records_in Columns column_profile_at s start)
 has_is s start column = numbered_is Columns column_profile_at column_size columns_fixed column_of front s start column (column_place s start column) refl
 
 pub connects_is : (s : List ℕ) (q : Sections) (left right : ℕ) → connects_places (edge_places s q left right) ≡ connects_inputs (sheet_of s q) left right

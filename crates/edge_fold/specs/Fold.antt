@@ -1,5 +1,5 @@
 -- The loop over a join's edges (`join_selectivity_from_conjuncts_with_config` in the source's analysis.rs). Definitions only.
-use Rattle.std.specs.Prelude.{Bool, true, false, cond, List, [], ◌∷◌, ◌++◌}
+use Rattle.std.specs.Prelude.{Bool, true, false, cond, List, [], ◌∷◌, ◌++◌, option_to_list}
 use Rattle.std.specs.Float.{binary64}
 use Rattle.std.specs.Float.Ieee.{mul}
 use Rattle.float.specs.Order.{f64_zero, f64_one}
@@ -11,8 +11,6 @@ use Rattle.equality_pairs.specs.NonNull.{non_null_marks}
 use Rattle.edge.specs.Edge.{equality_edge_estimate}
 use Rattle.edge.specs.declared.EqualityEdge.{EqualityEdge}
 use Rattle.edge.specs.declared.LeftEqualityCoverage.{LeftEqualityCoverage}
-use Rattle.edge.specs.declared.LeftCoverage.{LeftCoverage}
-use Rattle.edge.specs.declared.LeftCoverage.TheVariants.{Absent as NoCoverage, Present as Coverage}
 use Rattle.edge.specs.declared.EqualityEdgeEstimate.{EqualityEdgeEstimate}
 use Rattle.edge_fold.specs.Sides.{connects_inputs}
 use Rattle.edge_fold.specs.Edges.{equality_edges}
@@ -41,13 +39,9 @@ with_estimate figures estimate same =
     let before = zeroed estimate.domains_disjoint figures in
     cond same before (multiplied before estimate)
 
-abbrev pub coverage_of : LeftCoverage → List LeftEqualityCoverage
-coverage_of NoCoverage = []
-coverage_of (Coverage coverage) = coverage ∷ []
-
 -- nor does it cover anything
 abbrev pub coverage_unless : Bool → EqualityEdgeEstimate → List LeftEqualityCoverage
-coverage_unless same estimate = cond same [] (coverage_of estimate.left_coverage)
+coverage_unless same estimate = cond same [] (option_to_list estimate.left_coverage)
 
 -- ---- the loop
 

@@ -1,5 +1,5 @@
 -- Which inputs of a join have a column (`column_sides` of the source's analysis.rs). Definitions only.
-use Rattle.std.specs.Prelude.{ℕ, Bool, ◌&&◌, not, List, eqb}
+use Rattle.std.specs.Prelude.{ℕ, Bool, ◌&&◌, not, List, Option, is_some}
 use Rattle.std.specs.Bool.{beq}
 use Rattle.records.specs.declared.columns.ColumnProfile.{ColumnProfile}
 use Rattle.sheet.specs.Sheet.{Sheet}
@@ -20,8 +20,8 @@ connects_inputs sheet left right = not (same_side sheet.left_columns left right 
 
 -- ---- by the places of an edge's columns
 
-abbrev pub both_or_neither : ℕ → ℕ → Bool
-both_or_neither a b = beq (not (eqb a 0)) (not (eqb b 0))
+abbrev pub both_or_neither : Option ℕ → Option ℕ → Bool
+both_or_neither a b = beq (is_some a) (is_some b)
 
 abbrev pub connects_places : EdgePlaces → Bool
 connects_places places = not (both_or_neither places.left_in_left places.right_in_left && both_or_neither places.left_in_right places.right_in_right)

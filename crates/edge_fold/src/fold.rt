@@ -1,15 +1,15 @@
 // What the edges of a join come to.
-ghost use Rattle.std.specs.Prelude.{◌≡◌, ◌+◌, ◌*◌, ◌≤◌, ◌<◌, length};
+ghost use Rattle.std.specs.Prelude.{◌≡◌, ◌+◌, ◌*◌, ◌≤◌, ◌<◌, length, option_to_list};
 ghost use Rattle.sheet.specs.Sheet.{sheet_of};
 ghost use Rattle.layout.specs.Places.{coverage_size, conjunct_limit};
 ghost use Rattle.edge.specs.Places.{edge_places};
-ghost use Rattle.edge_fold.specs.Fold.{zeroed, multiplied, with_estimate, coverage_of, coverage_unless, edge_figures, edge_coverages};
+ghost use Rattle.edge_fold.specs.Fold.{zeroed, multiplied, with_estimate, coverage_unless, edge_figures, edge_coverages};
 ghost use Rattle.edge_fold.specs.Coverages.{Appended};
 
 use crate::coverages::put_coverage;
 use crate::sides::connects_places;
 use edge::places::EdgePlaces;
-use edge::{EqualityEdge, EqualityEdgeEstimate, LeftCoverage, equality_edge_estimate};
+use edge::{EqualityEdge, EqualityEdgeEstimate, LeftEqualityCoverage, equality_edge_estimate};
 use layout::COVERAGE_SIZE;
 use sheet::Sections;
 
@@ -21,7 +21,8 @@ pub struct EqualityFigures {
     pub has_cross_input_equality: bool,
 }
 
-// The figures, and how many coverages were written.
+// The figures, and how many coverages were written. They stand in the caller's memory, since the
+// library has no heap.
 #[derive(Clone, Copy)]
 pub struct EqualityTotals {
     pub figures: EqualityFigures,
@@ -66,14 +67,14 @@ fn with_estimate(
 }
 
 // Behind n coverages.
-fn append_coverage(coverage: LeftCoverage, n: usize, out: &mut [u8]) -> usize
+fn append_coverage(coverage: Option<LeftEqualityCoverage>, n: usize, out: &mut [u8]) -> usize
     requires { (n < conjunct_limit) × (coverage_size * (n + 1) ≤ length out.old) }
-    ensures value { result ≡ n + length (coverage_of coverage) }
-    ensures appended { Appended n (coverage_of coverage) out.old out.new }
+    ensures value { result ≡ n + length (option_to_list coverage) }
+    ensures appended { Appended n (option_to_list coverage) out.old out.new }
 {
     match coverage {
-        LeftCoverage::Absent => n,
-        LeftCoverage::Present(c) => {
+        None => n,
+        Some(c) => {
             put_coverage(&mut out[COVERAGE_SIZE * n..], c);
             n + 1
         }
@@ -88,8 +89,7 @@ fn append_unless(same: bool, estimate: EqualityEdgeEstimate, n: usize, out: &mut
     if same {
         return n;
     }
-    let coverage = estimate.left_coverage;
-    append_coverage(coverage, n, out)
+    append_coverage(estimate.left_coverage, n, out)
 }
 
 fn with_edge_estimate(

@@ -1,35 +1,30 @@
 -- Laws of the order of edges: the steps that make it, and what stands in it. Assumes nothing.
-use Prim.Native.Nat.{ℕ, zero, suc, ◌+◌, ◌-◌, ◌<◌, ◌≤◌}
-use mathlib.Core.Path.{◌≡◌, refl, sym, ap, ◌∙◌}
-use mathlib.Core.Bool.{Bool, true, false, ◌&&◌, not}
-use mathlib.Core.List.{List, [], ◌∷◌, map, ◌++◌, append-nil, Memᴰ}
-use native.Mathlib.Omega.{arith}
-use lib.ListN.{length, take, drop}
-use lib.Seq.{take_all, take-append-le, take-take, drop_at, length-take-le}
-use lib.Ieee.{Float, lt, eq}
+use Rattle.std.proofs.Common.{◌≡◌, ℕ, zero, suc, ◌+◌, ◌-◌, ◌<◌, ◌≤◌, Bool, List, [], ◌∷◌, map, ◌++◌, length, get_or, take, drop, refl, sym, ap, ◌∙◌, arith, le_refl, append-nil, length-drop}
+use Rattle.std.proofs.lemmas.Slice.{between_to_end}
+use borrow.Rule.Slice.PartMut.{put_mid}
+use mathlib.Core.List.{Memᴰ}
+use lib.ListN.{drop_of_length-le}
+use lib.Seq.{take_all, take-append-le, take-take, drop_at, drop-drop, length-take-le}
 use Rattle.layout.specs.Places.{conjunct_limit}
 use Rattle.records.specs.Lists.{tabulate_from, tabulate, itself}
 use Rattle.records.proofs.ListLaws.{tabulate_in, tabulate_step, tabulate_end}
+use Rattle.edge_order.specs.declared.EdgeKey.{EdgeKey}
 use Rattle.edge_order.specs.Sort.{insert, sort}
-use Rattle.edge_order.specs.Order.{stands_before, number_before, edge_order}
+use Rattle.edge_order.specs.Order.{no_key, key_before, number_before, edge_order}
 use Rattle.edge_order.proofs.SortLaws.{sort_map_within}
 
--- ---- two edges
+-- ---- a list from its a-th element on
 
-module _ (distinct other : Float) (null_safe other_null_safe : Bool) where
-  pub stands_greater : lt other distinct ≡ true → true ≡ stands_before distinct null_safe other other_null_safe
-  unfolding stands_before
-  stands_greater h = rw h refl
+behind : (a : ℕ) (xs : List ℕ) → take (length xs - a) (drop a xs) ≡ drop a xs
+behind a xs = between_to_end xs a (length xs) (le_refl (length xs))
 
-  pub stands_equal : (r : Bool) → lt other distinct ≡ false → eq other distinct ≡ true → r ≡ (not null_safe && other_null_safe) → r ≡ stands_before distinct null_safe other other_null_safe
-  unfolding stands_before
-  stands_equal r h e is = rw (h, e) is
+-- with ys there
+put_behind : (a : ℕ) (xs ys : List ℕ) → put_mid a (length xs - a) xs ys ≡ take a xs ++ ys
+put_behind a xs ys =
+    ap (λ (l : List ℕ). take a xs ++ (ys ++ l)) (drop_of_length-le (drop a xs) (omega (arith, length-drop a xs)))
+    ∙ ap (λ (l : List ℕ). take a xs ++ l) (append-nil ys)
 
-  pub stands_not : lt other distinct ≡ false → eq other distinct ≡ false → false ≡ stands_before distinct null_safe other other_null_safe
-  unfolding stands_before
-  stands_not h e = rw (h, e) refl
-
--- ---- where a loop has sorted the numbers from k up to n, into the last places
+-- ---- where a loop has sorted the numbers from k up to n, into the places from k on
 
 module _ (before : ℕ → ℕ → Bool) (n : ℕ) where
   abbrev pub sorted_from : ℕ → List ℕ
@@ -37,52 +32,56 @@ module _ (before : ℕ → ℕ → Bool) (n : ℕ) where
 
   -- the places in front of them are as they were
   abbrev pub ordered_from : List ℕ → ℕ → List ℕ
-  ordered_from order k = take (conjunct_limit - n + k) order ++ sorted_from k
+  ordered_from start k = take k start ++ sorted_from k
 
-  pub order_first : (order : List ℕ) → length order ≡ conjunct_limit → n ≤ conjunct_limit → order ≡ ordered_from order n
+  pub order_first : (start : List ℕ) → length start ≡ n → start ≡ ordered_from start n
   unfolding sort
-  order_first order h k =
-      sym (append-nil order)
-      ∙ ap (λ (l : List ℕ). l ++ []) (sym (take_all (conjunct_limit - n + n) order (omega arith)))
-      ∙ ap (λ (l : List ℕ). take (conjunct_limit - n + n) order ++ sort before l) (sym (tabulate_end itself n n (omega arith)))
+  order_first start h =
+      sym (append-nil start)
+      ∙ ap (λ (l : List ℕ). l ++ []) (sym (take_all n start (omega arith)))
+      ∙ ap (λ (l : List ℕ). take n start ++ sort before l) (sym (tabulate_end itself n n (omega arith)))
 
   -- one more number in front
-  pub order_next : (k : ℕ) (order next start : List ℕ) → length start ≡ conjunct_limit → n ≤ conjunct_limit → 1 ≤ k → k ≤ n → order ≡ ordered_from start k
-      → next ≡ take (conjunct_limit - n + (k - 1)) order ++ insert before (k - 1) (drop (conjunct_limit - n + (k - 1) + 1) order)
-      → next ≡ ordered_from start (k - 1)
+  pub order_next : (k : ℕ) (order next start : List ℕ) → length start ≡ n → 0 < k → k ≤ n → order ≡ ordered_from start k
+      → next ≡ insert before (k - 1) (drop 1 (take (length order - (k - 1)) (drop (k - 1) order)))
+      → put_mid (k - 1) (length order - (k - 1)) order next ≡ ordered_from start (k - 1)
   unfolding sort
-  order_next k order next start s m h l f g =
-      g
-      ∙ ap (λ (r : List ℕ). r ++ insert before (k - 1) (drop (conjunct_limit - n + (k - 1) + 1) order)) front
-      ∙ ap (λ (r : List ℕ). take (conjunct_limit - n + (k - 1)) start ++ r)
-      (ap (insert before (k - 1)) (go (conjunct_limit - n + (k - 1) + 1) (k - 1 + 1) (omega arith) (omega arith))
+  order_next k order next start s h l f g =
+      put_behind (k - 1) order next
+      ∙ ap (λ (r : List ℕ). r ++ next) front
+      ∙ ap (λ (r : List ℕ). take (k - 1) start ++ r)
+      (g
+      ∙ ap (λ (r : List ℕ). insert before (k - 1) (drop 1 r)) (behind (k - 1) order)
+      ∙ ap (insert before (k - 1)) (drop-drop 1 (k - 1) order ∙ rest (k - 1 + 1) (omega arith))
       ∙ ap (sort before) (sym (tabulate_step itself (k - 1) n (omega arith))))
     where
-      held : length (take (conjunct_limit - n + k) start) ≡ conjunct_limit - n + k
-      held = length-take-le (conjunct_limit - n + k) start (omega arith)
+      held : length (take k start) ≡ k
+      held = length-take-le k start (omega arith)
 
-      front : take (conjunct_limit - n + (k - 1)) order ≡ take (conjunct_limit - n + (k - 1)) start
-      front =
-          ap (take (conjunct_limit - n + (k - 1))) f
-          ∙ take-append-le (conjunct_limit - n + (k - 1)) (take (conjunct_limit - n + k) start) (sorted_from k) (let e = held in omega arith)
-          ∙ take-take (conjunct_limit - n + (k - 1)) (conjunct_limit - n + k) start (omega arith)
+      front : take (k - 1) order ≡ take (k - 1) start
+      front = ap (take (k - 1)) f ∙ take-append-le (k - 1) (take k start) (sorted_from k) (let e = held in omega arith) ∙ take-take (k - 1) k start (omega arith)
 
-      go : (a b : ℕ) → a ≡ conjunct_limit - n + k → b ≡ k → drop a order ≡ sorted_from b
-      go a b p q = rw (p, q) (ap (drop (conjunct_limit - n + k)) f ∙ drop_at (take (conjunct_limit - n + k) start) (sorted_from k) (conjunct_limit - n + k) held)
+      rest : (j : ℕ) → j ≡ k → drop j order ≡ sorted_from j
+      rest j e = rw e (ap (drop k) f ∙ drop_at (take k start) (sorted_from k) k held)
 
-  pub order_all : (k : ℕ) (order start : List ℕ) → k ≤ 0 → order ≡ ordered_from start k → order ≡ take (conjunct_limit - n) start ++ sort before (tabulate itself n)
-  order_all k order start h f = go (conjunct_limit - n + k) (n - k) k (omega arith) (omega arith) (omega arith) f
+  pub order_all : (k : ℕ) (order start : List ℕ) → k ≤ 0 → order ≡ ordered_from start k → order ≡ sort before (tabulate itself n)
+  order_all k order start h f = f ∙ ap (ordered_from start) (none k h) ∙ ap (λ (m : ℕ). sort before (tabulate_from itself 0 m)) (omega arith)
     where
-      go : (a b c : ℕ) → a ≡ conjunct_limit - n → b ≡ n → c ≡ 0 → order ≡ take a start ++ sort before (tabulate_from itself c b) → order ≡ take (conjunct_limit - n) start ++ sort before (tabulate itself n)
-      go a b c p q r f = rw (p, q, r) at f
+      none : (k : ℕ) → k ≤ 0 → k ≡ 0
+      none k h = omega arith
 
 -- ---- what stands in it
 
-module _ (distincts : List Float) (null_safes : List Bool) (n : ℕ) where
+-- told by their keys
+pub number_is : (keys : List EdgeKey) (i j : ℕ) (a b : EdgeKey) (r s : Bool) → a ≡ get_or keys i no_key → b ≡ get_or keys j no_key → r ≡ key_before a b → r ≡ s → number_before keys i j ≡ s
+unfolding number_before
+number_is keys i j a b r s e f g h = sym (λ t. key_before (e t) (f t)) ∙ sym g ∙ h
+
+module _ (keys : List EdgeKey) (n : ℕ) where
   -- edges that are told by their numbers are sorted as their numbers are
-  pub edge_order_map : {A : Type 0} (f : ℕ → A) (before : A → A → Bool) → ((i j : ℕ) → i < n → j < n → number_before distincts null_safes i j ≡ before (f i) (f j)) → map f (edge_order distincts null_safes n) ≡ sort before (map f (tabulate itself n))
+  pub edge_order_map : {A : Type 0} (f : ℕ → A) (before : A → A → Bool) → ((i j : ℕ) → i < n → j < n → number_before keys i j ≡ before (f i) (f j)) → map f (edge_order keys n) ≡ sort before (map f (tabulate itself n))
   unfolding edge_order
-  edge_order_map f before h = sort_map_within f (number_before distincts null_safes) before (tabulate itself n)
+  edge_order_map f before h = sort_map_within f (number_before keys) before (tabulate itself n)
       (λ (i j : ℕ) (p : Memᴰ i (tabulate itself n)) (q : Memᴰ j (tabulate itself n)). h i j (below i p) (below j q))
     where
       below : (i : ℕ) → Memᴰ i (tabulate itself n) → i < n
@@ -92,6 +91,14 @@ module _ (distincts : List Float) (null_safes : List Bool) (n : ℕ) where
         where
           less : (j : ℕ) → j < n → i ≡ j → i < n
           less j h e = omega arith
+
+-- the last n places of a list, where a loop has put them in order
+pub order_last : (keys : List EdgeKey) (n : ℕ) (start next : List ℕ) → n ≤ conjunct_limit → length start ≡ conjunct_limit
+    → next ≡ edge_order keys (length (take (length start - (conjunct_limit - n)) (drop (conjunct_limit - n) start)))
+    → put_mid (conjunct_limit - n) (length start - (conjunct_limit - n)) start next ≡ take (conjunct_limit - n) start ++ edge_order keys n
+order_last keys n start next h l e =
+    put_behind (conjunct_limit - n) start next
+    ∙ ap (λ (r : List ℕ). take (conjunct_limit - n) start ++ r) (e ∙ ap (edge_order keys) (ap length (behind (conjunct_limit - n) start) ∙ omega (arith, length-drop (conjunct_limit - n) start)))
 
 map_from {ℓ} : {A : Type ℓ} (f : ℕ → A) (i n : ℕ) → map f (tabulate_from itself i n) ≡ tabulate_from f i n
 unfolding tabulate_from

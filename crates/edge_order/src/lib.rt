@@ -1,102 +1,67 @@
 // The order in which a join's edges are taken up: `equality_edges.sort_by` of the source's analysis.rs.
 #![tactic(auto)]
 
-ghost use Rattle.std.specs.Prelude.{◌≡◌, false, ◌&&◌, not, ◌++◌, ◌+◌, ◌-◌, ◌<◌, ◌≤◌, length, get_or, take, drop};
-ghost use Rattle.float.specs.Order.{f64_zero};
+ghost use Rattle.std.specs.Prelude.{◌≡◌, ◌<◌, ◌≤◌, length, get_or, drop};
 ghost use Rattle.layout.specs.Places.{conjunct_limit};
 ghost use Rattle.edge_order.specs.Sort.{insert};
-ghost use Rattle.edge_order.specs.Order.{stands_before, number_before, edge_order};
+ghost use Rattle.edge_order.specs.Order.{no_key, key_before, number_before, edge_order};
 
-use layout::CONJUNCT_LIMIT;
-
-fn distinct_of(distincts: &[f64], i: u8) -> f64
-    ensures { result ≡ get_or distincts.now i f64_zero }
-{
-    let i = i as usize;
-    if i < distincts.len() {
-        return distincts[i];
-    }
-    0.0
+// What an edge is ordered by.
+#[derive(Clone, Copy)]
+pub struct EdgeKey {
+    pub distinct: f64,
+    pub null_safe: bool,
 }
 
-fn null_safe_of(null_safes: &[bool], i: u8) -> bool
-    ensures { result ≡ get_or null_safes.now i false }
-{
-    let i = i as usize;
-    if i < null_safes.len() {
-        return null_safes[i];
+// Of an edge that is not there.
+pub const NO_KEY: EdgeKey = EdgeKey {
+    distinct: 0.0,
+    null_safe: false,
+};
+
+impl EdgeKey {
+    // By falling distinct, and of equal ones ordinary edges first.
+    #[tactic(auto, unfolding(crate::specs::Order::key_before, crate::specs::Order::stands_before))]
+    fn stands_before(self, other: EdgeKey) -> bool
+        ensures { result ≡ key_before self other }
+    {
+        other.distinct < self.distinct
+            || (other.distinct == self.distinct && !self.null_safe && other.null_safe)
     }
-    false
 }
 
-// Of two edges of equal distincts.
-fn ordinary_before(null_safe: bool, other_null_safe: bool) -> bool
-    ensures { result ≡ (not null_safe && other_null_safe) }
+fn key_of(keys: &[EdgeKey], i: u8) -> EdgeKey
+    ensures { result ≡ get_or keys.now i no_key }
 {
-    if null_safe {
-        return false;
-    }
-    other_null_safe
+    keys.get(i as usize).copied().unwrap_or(NO_KEY)
 }
 
-fn stands_before(distinct: f64, null_safe: bool, other: f64, other_null_safe: bool) -> bool
-    ensures { result ≡ stands_before distinct null_safe other other_null_safe }
+// x goes into the sorted rest behind the first place; those that stand before it move one place to the front.
+#[tactic(auto, unfolding(crate::specs::Order::number_before))]
+fn place(keys: &[EdgeKey], order: &mut [u8], x: u8)
+    requires { 0 < length order.old }
+    ensures { order.new ≡ insert (number_before keys.now) x (drop 1 order.old) }
 {
-    if other < distinct {
-        return true;
-    }
-    if other == distinct {
-        return ordinary_before(null_safe, other_null_safe);
-    }
-    false
-}
-
-fn number_before(distincts: &[f64], null_safes: &[bool], i: u8, j: u8) -> bool
-    ensures { result ≡ number_before distincts.now null_safes.now i j }
-{
-    stands_before(
-        distinct_of(distincts, i),
-        null_safe_of(null_safes, i),
-        distinct_of(distincts, j),
-        null_safe_of(null_safes, j),
-    )
-}
-
-// The last place of an order.
-const LAST: usize = CONJUNCT_LIMIT - 1;
-
-// x goes into the sorted rest behind `at`; those that stand before it move one place to the front.
-fn place(distincts: &[f64], null_safes: &[bool], order: &mut [u8], at: usize, x: u8)
-    requires { (at < conjunct_limit) × (length order.old ≡ conjunct_limit) }
-    ensures { order.new ≡ take at order.old ++ insert (number_before distincts.now null_safes.now) x (drop (at + 1) order.old) }
-{
-    let mut j = at;
-    while j < LAST {
+    let key = key_of(keys, x);
+    let last = order.len() - 1;
+    for j in 0..last {
         let y = order[j + 1];
-        if !number_before(distincts, null_safes, y, x) {
+        if !key_of(keys, y).stands_before(key) {
             order[j] = x;
             return;
         }
         order[j] = y;
-        j += 1;
     }
-    order[j] = x;
+    order[last] = x;
 }
 
-// The numbers of n edges in their order, in the last n places.
-pub fn edge_order(distincts: &[f64], null_safes: &[bool], n: usize, order: &mut [u8])
-    requires { (n ≤ conjunct_limit) × (length order.old ≡ conjunct_limit) }
-    ensures { order.new ≡ take (conjunct_limit - n) order.old ++ edge_order distincts.now null_safes.now n }
+// The numbers of as many edges as there are places, in their order. A NaN among the distincts leaves no order that a
+// sort of the library could promise, and its stable ones take heap: so the numbers are inserted one by one.
+pub fn edge_order(keys: &[EdgeKey], order: &mut [u8])
+    requires { length order.old ≤ conjunct_limit }
+    ensures { order.new ≡ edge_order keys.now (length order.old) }
 {
-    let mut k = n;
-    while k > 0 {
-        k -= 1;
-        place(
-            distincts,
-            null_safes,
-            order,
-            CONJUNCT_LIMIT - n + k,
-            k as u8,
-        );
+    for k in (0..order.len()).rev() {
+        place(keys, &mut order[k..], k as u8);
     }
 }

@@ -7,13 +7,10 @@ use mathlib.Core.List.{List, [], ◌∷◌, Memᴰ}
 use native.Mathlib.Omega.{arith}
 use borrow.Author.Tests.{eqb-true, eq-eqb, ne_eqb, not-false}
 use lib.Dec.{eqb}
-use lib.ListN.{length, set, length-set}
-use lib.Seq.{set-get_or}
-use Rattle.records.specs.Lists.{tabulate_from}
-use Rattle.records.proofs.ListLaws.{tabulate_step, tabulate_end}
-use Rattle.equality_pairs.specs.Pairs.{pair_at, pairs_in}
+use native.Mathlib.Numerals.{add-one}
+use lib.ListN.{length, get_or, set, drop, length-set, drop_of_length-le}
+use lib.Seq.{drop-cons, set-get_or}
 use Rattle.equality_pairs.specs.declared.pairs.EqualityPair.{EqualityPair}
-use Rattle.equality_pairs.specs.declared.pairs.EqualityPairs.{EqualityPairs}
 use Rattle.equality_pairs.specs.NonNull.{is_marked, with_both, with_ordinary, extended, extends, pass, pass_extends, count, passes}
 
 -- ---- a pair
@@ -34,11 +31,11 @@ module _ (marks : List Bool) (pair : EqualityPair) (x y : Bool) (left : x ≡ is
       go false true l r e = absurd (false≢true e)
       go false false l r e = refl
 
-  pub extends_even : (changed : Bool) → beq x y ≡ true → changed ≡ (extends marks pair || changed)
-  extends_even changed e = ap (λ (b : Bool). not b || changed) (sym e ∙ (λ i. beq (left i) (right i)))
+  pub extends_even : beq x y ≡ true → false ≡ extends marks pair
+  extends_even e = ap not (sym e ∙ (λ i. beq (left i) (right i)))
 
-  pub extends_uneven : (changed : Bool) → beq x y ≡ false → true ≡ (extends marks pair || changed)
-  extends_uneven changed e = ap (λ (b : Bool). not b || changed) (sym e ∙ (λ i. beq (left i) (right i)))
+  pub extends_uneven : beq x y ≡ false → true ≡ extends marks pair
+  extends_uneven e = ap not (sym e ∙ (λ i. beq (left i) (right i)))
 
   -- one of the two
   pub extended_uneven : (out out' : List Bool) → beq x y ≡ false → out ≡ set marks pair.left true → out' ≡ set out pair.right true → out' ≡ extended marks pair
@@ -54,63 +51,51 @@ module _ (marks : List Bool) (pair : EqualityPair) (x y : Bool) (left : x ≡ is
       one false true e = refl
       one false false e = absurd (true≢false e)
 
--- ---- pairs in places, where a loop stands at the i-th
+-- ---- a loop over pairs that stands at the i-th
 
-module _ (pairs : EqualityPairs) where
-  abbrev pub rest_from : ℕ → List EqualityPair
-  rest_from i = tabulate_from (pair_at pairs) i (pairs.count - i)
+module _ (pairs : List EqualityPair) (marks : List Bool) (i : ℕ) where
+  pub ordinary_end : length pairs ≤ i → marks ≡ with_ordinary marks (drop i pairs)
+  unfolding with_ordinary
+  ordinary_end h = ap (with_ordinary marks) (sym (drop_of_length-le pairs h))
 
-  pub rest_first : rest_from 0 ≡ pairs_in pairs
-  rest_first = ap (tabulate_from (pair_at pairs) 0) (all pairs.count)
-    where
-      all : (n : ℕ) → n - 0 ≡ n
-      all n = omega arith
+  pub pass_end : length pairs ≤ i → marks ≡ pass marks (drop i pairs)
+  unfolding pass
+  pass_end h = ap (pass marks) (sym (drop_of_length-le pairs h))
 
-  module _ (marks : List Bool) (i : ℕ) where
-    pub ordinary_end : pairs.count ≤ i → marks ≡ with_ordinary marks (rest_from i)
+  pub extends_end : (changed : Bool) → length pairs ≤ i → changed ≡ (pass_extends marks (drop i pairs) || changed)
+  unfolding pass_extends
+  extends_end changed h = ap (λ (l : List EqualityPair). pass_extends marks l || changed) (sym (drop_of_length-le pairs h))
+
+  module _ (d pair : EqualityPair) (out : List Bool) (h : i < length pairs) (is : pair ≡ get_or pairs i d) where
+    next : pair ∷ drop (i + 1) pairs ≡ drop i pairs
+    next = (λ j. is j ∷ drop (add-one i j) pairs) ∙ sym (drop-cons pairs i d h)
+
+    pub ordinary_next : out ≡ cond pair.null_safe marks (with_both marks pair) → with_ordinary out (drop (i + 1) pairs) ≡ with_ordinary marks (drop i pairs)
     unfolding with_ordinary
-    ordinary_end h = ap (with_ordinary marks) (sym (tabulate_end (pair_at pairs) i pairs.count h))
+    ordinary_next e = ap (λ (m : List Bool). with_ordinary m (drop (i + 1) pairs)) e ∙ ap (with_ordinary marks) next
 
-    pub pass_end : pairs.count ≤ i → marks ≡ pass marks (rest_from i)
+    pub pass_next : out ≡ extended marks pair → pass out (drop (i + 1) pairs) ≡ pass marks (drop i pairs)
     unfolding pass
-    pass_end h = ap (pass marks) (sym (tabulate_end (pair_at pairs) i pairs.count h))
+    pass_next e = ap (λ (m : List Bool). pass m (drop (i + 1) pairs)) e ∙ ap (pass marks) next
 
-    pub extends_end : (changed : Bool) → pairs.count ≤ i → changed ≡ (pass_extends marks (rest_from i) || changed)
+    -- what the pairs from the i-th on extend, or those before it did
+    pub extends_next : (changed changed' : Bool) → out ≡ extended marks pair → changed' ≡ (extends marks pair || changed)
+        → (pass_extends out (drop (i + 1) pairs) || changed') ≡ (pass_extends marks (drop i pairs) || changed)
     unfolding pass_extends
-    extends_end changed h = ap (λ (l : List EqualityPair). pass_extends marks l || changed) (sym (tabulate_end (pair_at pairs) i pairs.count h))
+    extends_next changed changed' e f =
+        (λ k. pass_extends (e k) (drop (i + 1) pairs) || f k)
+        ∙ turned (extends marks pair) (pass_extends (extended marks pair) (drop (i + 1) pairs)) changed
+        ∙ ap (λ (l : List EqualityPair). pass_extends marks l || changed) next
+      where
+        turned : (a b c : Bool) → (b || (a || c)) ≡ ((a || b) || c)
+        turned true true c = refl
+        turned true false c = refl
+        turned false b c = refl
 
-    module _ (pair : EqualityPair) (out : List Bool) (h : i < pairs.count) (is : pair ≡ pair_at pairs i) where
-      next : pair ∷ rest_from (i + 1) ≡ rest_from i
-      next = ap (λ (p : EqualityPair). p ∷ rest_from (i + 1)) is ∙ sym (tabulate_step (pair_at pairs) i pairs.count h)
-
-      pub ordinary_next : out ≡ cond pair.null_safe marks (with_both marks pair) → with_ordinary out (rest_from (i + 1)) ≡ with_ordinary marks (rest_from i)
-      unfolding with_ordinary
-      ordinary_next e = ap (λ (m : List Bool). with_ordinary m (rest_from (i + 1))) e ∙ ap (with_ordinary marks) next
-
-      pub pass_next : out ≡ extended marks pair → pass out (rest_from (i + 1)) ≡ pass marks (rest_from i)
-      unfolding pass
-      pass_next e = ap (λ (m : List Bool). pass m (rest_from (i + 1))) e ∙ ap (pass marks) next
-
-      -- what the pairs from the i-th on extend, or those before it did
-      pub extends_next : (changed changed' : Bool) → out ≡ extended marks pair → changed' ≡ (extends marks pair || changed)
-          → (pass_extends out (rest_from (i + 1)) || changed') ≡ (pass_extends marks (rest_from i) || changed)
-      unfolding pass_extends
-      extends_next changed changed' e f =
-          (λ k. pass_extends (e k) (rest_from (i + 1)) || f k)
-          ∙ turned (extends marks pair) (pass_extends (extended marks pair) (rest_from (i + 1))) changed
-          ∙ ap (λ (l : List EqualityPair). pass_extends marks l || changed) next
-        where
-          turned : (a b c : Bool) → (b || (a || c)) ≡ ((a || b) || c)
-          turned true true c = refl
-          turned true false c = refl
-          turned false b c = refl
-
-  pub extends_all : (marks : List Bool) → (pass_extends marks (rest_from 0) || false) ≡ pass_extends marks (pairs_in pairs)
-  extends_all marks = or_false (pass_extends marks (rest_from 0)) ∙ ap (pass_extends marks) rest_first
-    where
-      or_false : (b : Bool) → (b || false) ≡ b
-      or_false true = refl
-      or_false false = refl
+-- before the first pair none has extended any marks
+pub extends_first : (b : Bool) → (b || false) ≡ b
+extends_first true = refl
+extends_first false = refl
 
 -- a pass that extends no marks leaves them
 pub pass_same : (marks : List Bool) (pairs : List EqualityPair) → pass_extends marks pairs ≡ false → pass marks pairs ≡ marks
@@ -263,20 +248,18 @@ module _ (pairs : List EqualityPair) where
   pub passes_last : (k : ℕ) (marks out : List Bool) → out ≡ pass marks pairs → pass_extends marks pairs ≡ false → out ≡ passes k marks pairs
   passes_last k marks out e f = let still = pass_same marks pairs f in e ∙ still ∙ sym (passes_still k marks still)
 
-  pub passes_turn : (k : ℕ) (marks out : List Bool) → 1 ≤ k → out ≡ pass marks pairs → passes (k - 1) out pairs ≡ passes k marks pairs
-  passes_turn zero marks out h e = absurd (none h)
+  pub passes_turn : (i n : ℕ) (marks out : List Bool) → i < n → out ≡ pass marks pairs → passes (n - (i + 1)) out pairs ≡ passes (n - i) marks pairs
+  passes_turn i n marks out h e =
+      (λ k. passes (n - (i + 1)) (e k) pairs)
+      ∙ sym (passes_next (n - (i + 1)) marks)
+      ∙ ap (λ (k : ℕ). passes k marks pairs) (one_more i n h)
     where
-      none : 1 ≤ 0 → ⊥
-      none h = omega arith
-  passes_turn (suc k) marks out h e = (λ i. passes (back k i) (e i) pairs) ∙ sym (passes_next k marks)
-    where
-      back : (k : ℕ) → suc k - 1 ≡ k
-      back k = omega arith
+      one_more : (i n : ℕ) → i < n → suc (n - (i + 1)) ≡ n - i
+      one_more i n h = omega arith
 
-  pub passes_none : (k : ℕ) (marks : List Bool) → k ≤ 0 → marks ≡ passes k marks pairs
+  pub passes_none : (i n : ℕ) (marks : List Bool) → n ≤ i → marks ≡ passes (n - i) marks pairs
   unfolding passes
-  passes_none zero marks h = refl
-  passes_none (suc k) marks h = absurd (more k h)
+  passes_none i n marks h = ap (λ (k : ℕ). passes k marks pairs) (none i n h)
     where
-      more : (k : ℕ) → suc k ≤ 0 → ⊥
-      more k h = omega arith
+      none : (i n : ℕ) → n ≤ i → 0 ≡ n - i
+      none i n h = omega arith

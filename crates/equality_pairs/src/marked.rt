@@ -1,37 +1,31 @@
 // The marked columns, ascending: how many there are, and written two bytes each.
-ghost use Rattle.std.specs.Prelude.{◌≡◌, cond, [], ◌∷◌, ◌*◌, ◌≤◌, length};
+ghost use Rattle.std.specs.Prelude.{◌≡◌, ◌*◌, ◌≤◌, length};
 ghost use Rattle.layout.specs.Places.{number_size};
 ghost use Rattle.le.specs.Fields.{onto};
 ghost use Rattle.number_bytes.specs.Numbers.{numbers_bytes};
-ghost use Rattle.equality_pairs.specs.NonNull.{marked_columns};
+ghost use Rattle.equality_pairs.specs.NonNull.{is_marked, marked_columns};
 
 use crate::non_null::is_marked;
-use float::integers::one_if;
-use layout::{COLUMN_LIMIT, NUMBER_SIZE};
-use number_bytes::put_number;
+use layout::COLUMN_LIMIT;
+use selection::{Test, put_selected, selected_count};
+
+#[derive(Clone, Copy)]
+struct Marked<'a> {
+    marks: &'a [bool],
+}
+
+impl Test for Marked<'_> {
+    ghost test = { λ it. is_marked it.marks.now };
+
+    fn passes(&self, n: u16) -> bool {
+        is_marked(self.marks, n)
+    }
+}
 
 pub fn marked_count(marks: &[bool]) -> usize
     ensures { result ≡ length (marked_columns marks.now) }
 {
-    let mut n: usize = 0;
-    let mut i: u16 = 0;
-    while i < COLUMN_LIMIT as u16 {
-        n += one_if(is_marked(marks, i)) as usize;
-        i += 1;
-    }
-    n
-}
-
-// One column or none, and how many bytes it takes.
-fn put_if(out: &mut [u8], marked: bool, column: u16) -> usize
-    requires { number_size * length (cond marked (column ∷ []) []) ≤ length out.old }
-    ensures value { result ≡ number_size * length (cond marked (column ∷ []) []) }
-    ensures out_after { out.new ≡ onto (numbers_bytes (cond marked (column ∷ []) [])) out.old }
-{
-    if marked {
-        return put_number(out, column);
-    }
-    0
+    selected_count(&Marked { marks }, COLUMN_LIMIT as u16)
 }
 
 // All of them, where it is known how many there are.
@@ -40,12 +34,5 @@ pub fn put_marked(marks: &[bool], count: usize, out: &mut [u8]) -> usize
     ensures value { result ≡ number_size * length (marked_columns marks.now) }
     ensures out_after { out.new ≡ onto (numbers_bytes (marked_columns marks.now)) out.old }
 {
-    let size = NUMBER_SIZE * count;
-    let mut at: usize = 0;
-    let mut i: u16 = 0;
-    while at < size {
-        at += put_if(&mut out[at..], is_marked(marks, i), i);
-        i += 1;
-    }
-    at
+    put_selected(&Marked { marks }, COLUMN_LIMIT as u16, count, out)
 }

@@ -2,12 +2,11 @@
 ghost use Rattle.std.specs.Prelude.{◌≡◌, replicate};
 ghost use Rattle.layout.specs.Places.{conjunct_limit};
 ghost use Rattle.sheet.specs.Sheet.{sheet_of};
-ghost use Rattle.lookup.specs.Lookup.{expression_of};
-ghost use Rattle.equality_pairs.specs.Pairs.{null_safe_in, no_pair, pair_or_none, pair_count};
+ghost use Rattle.equality_pairs.specs.Pairs.{null_safe_in, no_pair, equality_pair};
 
 use layout::CONJUNCT_LIMIT;
 use lookup::numbers::expression_of;
-use parts::equalities::{ColumnEquality, is_null_safe};
+use parts::equalities::{column_equality, is_null_safe};
 use records::expressions::Expression;
 use sheet::Sections;
 
@@ -19,7 +18,7 @@ pub struct EqualityPair {
     pub null_safe: bool,
 }
 
-// The first `count` places hold pairs.
+// The first `count` places hold pairs. A fixed array and a count, since the library has no heap.
 #[derive(Clone, Copy)]
 pub struct EqualityPairs {
     pub pairs: [EqualityPair; CONJUNCT_LIMIT],
@@ -30,21 +29,8 @@ fn null_safe_in(x: Expression) -> bool
     ensures { result ≡ null_safe_in x }
 {
     match x {
-        Expression::Literal(_) => false,
-        Expression::ColumnRef(_) => false,
-        Expression::Unary { op: _, expr: _ } => false,
-        Expression::Binary {
-            op,
-            left: _,
-            right: _,
-        } => is_null_safe(op),
-        Expression::Nary {
-            op: _,
-            first: _,
-            count: _,
-        } => false,
-        Expression::Like => false,
-        Expression::Other => false,
+        Expression::Binary { op, .. } => is_null_safe(op),
+        _ => false,
     }
 }
 
@@ -66,25 +52,15 @@ pub fn no_pairs() -> [EqualityPair; CONJUNCT_LIMIT]
     [none; CONJUNCT_LIMIT]
 }
 
-// The pair of the conjunct e, or none.
-pub fn pair_or_none(s: &[u8], q: Sections, e: u16, equality: ColumnEquality) -> EqualityPair
-    ensures { result ≡ pair_or_none (null_safe_in (expression_of (sheet_of s.now q) e)) equality }
+// The pair of the conjunct e, if it equates columns.
+#[tactic(auto, unfolding(crate::specs::Pairs::equality_pair))]
+pub fn equality_pair(s: &[u8], q: Sections, e: u16) -> Option<EqualityPair>
+    ensures { result ≡ equality_pair (sheet_of s.now q) e }
 {
-    match equality {
-        ColumnEquality::Absent => no_pair(),
-        ColumnEquality::Present { left, right } => EqualityPair {
-            left,
-            right,
-            null_safe: null_safe_in(expression_of(s, q, e)),
-        },
-    }
-}
-
-pub fn pair_count(equality: ColumnEquality) -> usize
-    ensures { result ≡ pair_count equality }
-{
-    match equality {
-        ColumnEquality::Absent => 0,
-        ColumnEquality::Present { left: _, right: _ } => 1,
-    }
+    let columns = column_equality(s, q, e)?;
+    Some(EqualityPair {
+        left: columns.left,
+        right: columns.right,
+        null_safe: null_safe_in(expression_of(s, q, e)),
+    })
 }

@@ -2,8 +2,10 @@
 use Prim.Native.Nat.{ℕ, zero, suc, ◌+◌, ◌*◌, ◌^◌, ◌≤◌, ◌<◌}
 use mathlib.Core.Path.{◌≡◌, refl, sym, ap, ◌∙◌, subst}
 use mathlib.Core.Logic.{◌⊎◌, inl, inr}
-use mathlib.Core.Bool.{Bool, true, false, not, cond, ◌||◌}
+use mathlib.Core.Bool.{Bool, true, false, not, ◌||◌}
 use mathlib.Core.List.{List, [], ◌∷◌, ◌++◌}
+use Rattle.std.specs.Prelude.{Option, None, Some, is_some, unwrap_or}
+use Rattle.std.specs.Bool.{then_some}
 use native.Mathlib.Omega.{arith}
 use borrow.Author.Tests.{ne_eqb, leb-true, le-leb, eqb-true}
 use lib.Dec.{T, leb, eqb}
@@ -15,8 +17,8 @@ use lib.Ieee.Fits.{and_l, and_r}
 use lib.Ieee.Positive as Positive
 use lib.Ieee.Positive.{positive}
 use Rattle.float.specs.Integers.{bit}
+use Rattle.float.specs.Order.{f64_zero}
 use Rattle.float.specs.Ranges.{plus_zero, between, zero_or_between}
-use Rattle.float.specs.declared.option.OptionF64.{OptionF64}
 use Rattle.float.proofs.RangeLaws.{plus_zero_is}
 use Rattle.le.specs.Fields.{byte_at, field_bytes, u64_at, u64_bytes}
 use Rattle.le.specs.Floats.{f64_at, f64_bytes}
@@ -32,6 +34,18 @@ use Rattle.estimate.specs.Estimates.{estimate_of, lower_bound, upper_bound}
 use Rattle.estimate.specs.declared.Estimate.{Estimate}
 use Rattle.estimate.specs.declared.EstimateSource.{EstimateSource}
 use Rattle.estimate.specs.declared.EstimateSource.TheVariants.{Exact, Catalog, Sketch, Derived, Default}
+
+-- ---- bounds as options
+
+bound_back : (x : Option Float) → then_some (is_some x) (unwrap_or x f64_zero) ≡ x
+bound_back None = refl
+bound_back (Some x) = refl
+
+pub lower_back : (value : Float) (lower upper : Option Float) (source : EstimateSource) → lower_bound (estimate_of value lower upper source) ≡ lower
+lower_back value lower upper source = bound_back lower
+
+pub upper_back : (value : Float) (lower upper : Option Float) (source : EstimateSource) → upper_bound (estimate_of value lower upper source) ≡ upper
+upper_back value lower upper source = bound_back upper
 
 -- ---- the two bytes at the front
 
@@ -87,15 +101,15 @@ kept : (b : Bool) (n : ℕ) → ask b (suc n) ≡ 0 → T b
 kept true n e = tt
 kept false n e = let z : suc n ≡ 0 = e in omega arith
 
-bound_back : (p : Bool) (s : List ℕ) (at : ℕ) → Bytes s → bound_refusal p s at ≡ 0 → option_bits (option_at p s at) ≡ u64_at s at
-bound_back true s at b e = figure_back s at b (kept (figure_lawful (f64_at s at)) 3 e)
-bound_back false s at b e = sym (eqb-true (u64_at s at) 0 (is_true (eqb (u64_at s at) 0) (kept (eqb (u64_at s at) 0) 5 e)))
+bits_back : (p : Bool) (s : List ℕ) (at : ℕ) → Bytes s → bound_refusal p s at ≡ 0 → option_bits (option_at p s at) ≡ u64_at s at
+bits_back true s at b e = figure_back s at b (kept (figure_lawful (f64_at s at)) 3 e)
+bits_back false s at b e = sym (eqb-true (u64_at s at) 0 (is_true (eqb (u64_at s at) 0) (kept (eqb (u64_at s at) 0) 5 e)))
 
-bound_lawful : (p : Bool) (s : List ℕ) (at : ℕ) → bound_refusal p s at ≡ 0 → LawfulBound (option_at p s at)
-bound_lawful true s at e = inl (refl, record { held = of_bits-fits binary64 (u64_at s at); lawful = kept (figure_lawful (f64_at s at)) 3 e })
-bound_lawful false s at e = inr refl
+bound_lawful : (p : Bool) (s : List ℕ) (at : ℕ) → bound_refusal p s at ≡ 0 → LawfulBound (is_some (option_at p s at)) (unwrap_or (option_at p s at) f64_zero)
+bound_lawful true s at e = record { held = of_bits-fits binary64 (u64_at s at); lawful = kept (figure_lawful (f64_at s at)) 3 e }
+bound_lawful false s at e = refl
 
-present_is : (p : Bool) (s : List ℕ) (at : ℕ) → (option_at p s at).present ≡ p
+present_is : (p : Bool) (s : List ℕ) (at : ℕ) → is_some (option_at p s at) ≡ p
 present_is true s at = refl
 present_is false s at = refl
 
@@ -156,14 +170,14 @@ estimate_written s at b h e =
     let k = all_kept s at e in
     let lower = lower_flag (byte_at s (at + 1)) in
     let upper = upper_flag (byte_at s (at + 1)) in
-    let flags : bit (option_at lower s (at + 10)).present + 2 * bit (option_at upper s (at + 18)).present ≡ byte_at s (at + 1)
+    let flags : bit (is_some (option_at lower s (at + 10))) + 2 * bit (is_some (option_at upper s (at + 18))) ≡ byte_at s (at + 1)
     = rw (present_is lower s (at + 10), present_is upper s (at + 18)) (flags_back (byte_at s (at + 1)) k.flags) in
     written estimate_fields (estimate_at s at) s at 0
     (byte_back _ s at (source_back (byte_at s at) k.source) (omega arith)
     and byte_back _ s (at + 1) flags (omega arith)
     and word_back _ s (at + 2) (figure_back s (at + 2) b k.value) b (omega arith)
-    and word_back _ s (at + 10) (bound_back lower s (at + 10) b k.lower) b (omega arith)
-    and word_back _ s (at + 18) (bound_back upper s (at + 18) b k.upper) b (omega arith)
+    and word_back _ s (at + 10) (ap option_bits (bound_back (option_at lower s (at + 10))) ∙ bits_back lower s (at + 10) b k.lower) b (omega arith)
+    and word_back _ s (at + 18) (ap option_bits (bound_back (option_at upper s (at + 18))) ∙ bits_back upper s (at + 18) b k.upper) b (omega arith)
     and tt)
 
 -- ---- the order: two are the same where their bytes are
@@ -182,17 +196,17 @@ range_figure low high x p q h l = elim (or_split (plus_zero x) (between low high
 figure : (x : Float) → LawfulFigure x → Figure x
 figure x f = range_figure (fin false 1 (negsuc 63)) (fin false 1 (pos 64)) x tt tt f.held f.lawful
 
-option_figure : (x : OptionF64) → LawfulBound x → Figure x.number × (to_bits binary64 x.number ≡ option_bits x)
-option_figure x (inl h) = (figure x.number h.1, sym (ap (λ (t : Bool). cond t (to_bits binary64 x.number) 0) h.0))
-option_figure x (inr h) = subst (λ (y : OptionF64). Figure y.number × (to_bits binary64 y.number ≡ option_bits y)) (sym h) (zero_figure, zero_bits)
+option_figure : (p : Bool) (x : Float) → LawfulBound p x → Figure x × (to_bits binary64 x ≡ option_bits (then_some p x))
+option_figure true x h = (figure x h, refl)
+option_figure false x h = (subst Figure (sym h) zero_figure, ap (to_bits binary64) h ∙ zero_bits)
 
 estimate_fields_law : EachField (LawfulField LawfulEstimate) estimate_fields
 estimate_fields_law =
     (byte_lawful LawfulEstimate (λ x. source_number x.source) _
     and byte_lawful LawfulEstimate flags_number _
     and pattern_lawful LawfulEstimate (λ x. x.value) (λ x. to_bits binary64 x.value) _ (λ x h. (figure x.value h.value, refl))
-    and pattern_lawful LawfulEstimate (λ x. x.lower) (λ x. option_bits (lower_bound x)) _ (λ x h. option_figure (lower_bound x) h.lower)
-    and pattern_lawful LawfulEstimate (λ x. x.upper) (λ x. option_bits (upper_bound x)) _ (λ x h. option_figure (upper_bound x) h.upper)
+    and pattern_lawful LawfulEstimate (λ x. x.lower) (λ x. option_bits (lower_bound x)) _ (λ x h. option_figure x.has_lower x.lower h.lower)
+    and pattern_lawful LawfulEstimate (λ x. x.upper) (λ x. option_bits (upper_bound x)) _ (λ x h. option_figure x.has_upper x.upper h.upper)
     and tt)
 
 pub estimate_lawful : LawfulField LawfulEstimate (as_field estimate_fields)
@@ -204,27 +218,23 @@ part_lawful L get h = group_lawful L LawfulEstimate get (λ c. estimate_refusal)
 
 -- ---- read as it was written, and accepted
 
-option_bits_small : (x : OptionF64) → LawfulBound x → option_bits x < 256 ^ 8
-option_bits_small x h = let f = option_figure x h in let l = to_bits-lt binary64 x.number f.0.held in subst (λ (n : ℕ). n < 256 ^ 8) f.1 l
+option_bits_small : (p : Bool) (x : Float) → LawfulBound p x → option_bits (then_some p x) < 256 ^ 8
+option_bits_small p x h = let f = option_figure p x h in let l = to_bits-lt binary64 x f.0.held in subst (λ (n : ℕ). n < 256 ^ 8) f.1 l
 
--- a bound read where its pattern stands
-given_at : (x : OptionF64) (s : List ℕ) (k : ℕ) → x.present ≡ true → T (fits binary64 x.number) → u64_at s k ≡ option_bits x → f64_at s k ≡ x.number
-given_at x s k p h u = ap (of_bits binary64) (u ∙ ap (λ (b : Bool). cond b (to_bits binary64 x.number) 0) p) ∙ of_bits-to_bits binary64 x.number h
+-- a float read where its pattern stands
+given_at : (x : Float) (s : List ℕ) (k : ℕ) → T (fits binary64 x) → u64_at s k ≡ to_bits binary64 x → f64_at s k ≡ x
+given_at x s k h u = ap (of_bits binary64) u ∙ of_bits-to_bits binary64 x h
 
-bound_read : (p : Bool) (x : OptionF64) (s : List ℕ) (k : ℕ) → p ≡ x.present → LawfulBound x → u64_at s k ≡ option_bits x → option_at p s k ≡ x
-bound_read p x s k e (inl h) u =
-    let n = given_at x s k h.0 h.1.held u in
-    ap (λ (b : Bool). option_at b s k) (e ∙ h.0) ∙ λ i. record { present = sym h.0 i; number = n i }
-bound_read p x s k e (inr h) u = ap (λ (b : Bool). option_at b s k) (e ∙ ap (λ (y : OptionF64). y.present) h) ∙ sym h
+bound_read : (q p : Bool) (x : Float) (s : List ℕ) (k : ℕ) → q ≡ p → LawfulBound p x → u64_at s k ≡ option_bits (then_some p x) → unwrap_or (option_at q s k) f64_zero ≡ x
+bound_read q true x s k e h u = ap (λ (b : Bool). unwrap_or (option_at b s k) f64_zero) e ∙ given_at x s k h.held u
+bound_read q false x s k e h u = ap (λ (b : Bool). unwrap_or (option_at b s k) f64_zero) e ∙ sym h
 
-bound_kept : (p : Bool) (x : OptionF64) (s : List ℕ) (k : ℕ) → p ≡ x.present → LawfulBound x → u64_at s k ≡ option_bits x → bound_refusal p s k ≡ 0
-bound_kept p x s k e (inl h) u =
-    ap (λ (b : Bool). bound_refusal b s k) (e ∙ h.0)
-    ∙ ap (λ (y : Float). ask (figure_lawful y) 4) (given_at x s k h.0 h.1.held u)
-    ∙ ap (λ (b : Bool). ask b 4) (is_true (figure_lawful x.number) h.1.lawful)
-bound_kept p x s k e (inr h) u =
-    ap (λ (b : Bool). bound_refusal b s k) (e ∙ ap (λ (y : OptionF64). y.present) h)
-    ∙ ap (λ (v : ℕ). ask (eqb v 0) 6) (u ∙ ap (λ (y : OptionF64). option_bits y) h)
+bound_kept : (q p : Bool) (x : Float) (s : List ℕ) (k : ℕ) → q ≡ p → LawfulBound p x → u64_at s k ≡ option_bits (then_some p x) → bound_refusal q s k ≡ 0
+bound_kept q true x s k e h u =
+    ap (λ (b : Bool). bound_refusal b s k) e
+    ∙ ap (λ (y : Float). ask (figure_lawful y) 4) (given_at x s k h.held u)
+    ∙ ap (λ (b : Bool). ask b 4) (is_true (figure_lawful x) h.lawful)
+bound_kept q false x s k e h u = ap (λ (b : Bool). bound_refusal b s k) e ∙ ap (λ (v : ℕ). ask (eqb v 0) 6) u
 
 record Read (x : Estimate) (s : List ℕ) (at : ℕ) : Type 0 where
   source : byte_at s at ≡ source_number x.source
@@ -246,9 +256,9 @@ fields_read x s t at h e =
       lower_flag = ap lower_flag flags ∙ f.0;
       upper_flag = ap upper_flag flags ∙ f.1;
       flags = flags;
-      value = ap (of_bits binary64) value ∙ of_bits-to_bits binary64 x.value h.value.held;
-      lower = field_found 8 (option_bits (lower_bound x)) s fields.1.1.1.0.0 (at + 10) (option_bits_small (lower_bound x) h.lower) fields.1.1.1.0.1;
-      upper = field_found 8 (option_bits (upper_bound x)) s fields.1.1.1.1.0.0 (at + 18) (option_bits_small (upper_bound x) h.upper) fields.1.1.1.1.0.1;
+      value = given_at x.value s (at + 2) h.value.held value;
+      lower = field_found 8 (option_bits (lower_bound x)) s fields.1.1.1.0.0 (at + 10) (option_bits_small x.has_lower x.lower h.lower) fields.1.1.1.0.1;
+      upper = field_found 8 (option_bits (upper_bound x)) s fields.1.1.1.1.0.0 (at + 18) (option_bits_small x.has_upper x.upper h.upper) fields.1.1.1.1.0.1;
     }
 
 pub estimate_read : (x : Estimate) (s t : List ℕ) (at : ℕ) → LawfulEstimate x → drop at s ≡ bytes_of estimate_fields x ++ t → estimate_at s at ≡ x
@@ -256,9 +266,13 @@ unfolding estimate_at
 estimate_read x s t at h e =
     let r = fields_read x s t at h e in
     let source = ap source_of r.source ∙ (source_known x.source).1 in
-    let lower = bound_read (lower_flag (byte_at s (at + 1))) (lower_bound x) s (at + 10) r.lower_flag h.lower r.lower in
-    let upper = bound_read (upper_flag (byte_at s (at + 1))) (upper_bound x) s (at + 18) r.upper_flag h.upper r.upper in
-    λ i. estimate_of (r.value i) (lower i) (upper i) (source i)
+    let lower_flag = lower_flag (byte_at s (at + 1)) in
+    let upper_flag = upper_flag (byte_at s (at + 1)) in
+    let lower = bound_read lower_flag x.has_lower x.lower s (at + 10) r.lower_flag h.lower r.lower in
+    let upper = bound_read upper_flag x.has_upper x.upper s (at + 18) r.upper_flag h.upper r.upper in
+    let has_lower = present_is lower_flag s (at + 10) ∙ r.lower_flag in
+    let has_upper = present_is upper_flag s (at + 18) ∙ r.upper_flag in
+    λ i. record { value = r.value i; lower = lower i; upper = upper i; has_lower = has_lower i; has_upper = has_upper i; source = source i }
 
 pub estimate_accepted : (x : Estimate) (s t : List ℕ) (at : ℕ) → LawfulEstimate x → drop at s ≡ bytes_of estimate_fields x ++ t → estimate_refusal s at ≡ 0
 unfolding estimate_refusal
@@ -270,6 +284,6 @@ estimate_accepted x s t at h e =
     (ap (λ (n : ℕ). ask (leb n 4) 6) r.source ∙ ap (λ (b : Bool). ask b 6) (le-leb (source_number x.source) 4 (source_known x.source).0)
     and ap (λ (n : ℕ). ask (leb n 3) 6) r.flags ∙ ap (λ (b : Bool). ask b 6) (le-leb (flags_number x) 3 (omega arith))
     and ap (λ (y : Float). ask (figure_lawful y) 4) r.value ∙ ap (λ (b : Bool). ask b 4) (is_true (figure_lawful x.value) h.value.lawful)
-    and bound_kept (lower_flag (byte_at s (at + 1))) (lower_bound x) s (at + 10) r.lower_flag h.lower r.lower
-    and bound_kept (upper_flag (byte_at s (at + 1))) (upper_bound x) s (at + 18) r.upper_flag h.upper r.upper
+    and bound_kept (lower_flag (byte_at s (at + 1))) x.has_lower x.lower s (at + 10) r.lower_flag h.lower r.lower
+    and bound_kept (upper_flag (byte_at s (at + 1))) x.has_upper x.upper s (at + 18) r.upper_flag h.upper r.upper
     and tt)

@@ -1,17 +1,17 @@
 -- The bytes of an estimate (document 01, "The join sheet"): a byte for the source, a byte of flags, then three floats, of which the bounds are all zeros where their flag is clear. Definitions only.
-use Rattle.std.specs.Prelude.{ℕ, ◌+◌, ◌*◌, ◌/◌, ◌%◌, ◌≡◌, ◌⊎◌, Bool, true, false, cond, List, [], ◌∷◌, T, leb, eqb, pos, negsuc, Float}
+use Rattle.std.specs.Prelude.{ℕ, ◌+◌, ◌*◌, ◌/◌, ◌%◌, ◌≡◌, Bool, true, false, cond, List, [], ◌∷◌, Option, None, Some, T, leb, eqb, pos, negsuc, Float}
+use Rattle.std.specs.Bool.{then_some}
 use Rattle.std.specs.Float.{fin, binary64}
 use Rattle.std.specs.Float.Ieee.{to_bits, fits}
 use Rattle.float.specs.Integers.{bit}
-use Rattle.float.specs.Option.{some, none}
 use Rattle.float.specs.Ranges.{zero_or_between}
-use Rattle.float.specs.declared.option.OptionF64.{OptionF64}
+use Rattle.float.specs.Order.{f64_zero}
 use Rattle.le.specs.Fields.{byte_at, u64_at}
 use Rattle.le.specs.Floats.{f64_at}
 use Rattle.rules.specs.Rules.{ask}
 use Rattle.layout.specs.Places.{estimate_flags_offset, estimate_value_offset, estimate_lower_offset, estimate_upper_offset}
 use Rattle.layout.specs.Fields.{Field, byte, pattern, float, group, refusal_from, bytes_of}
-use Rattle.estimate.specs.Estimates.{estimate_of, lower_bound, upper_bound}
+use Rattle.estimate.specs.Estimates.{estimate_of}
 use Rattle.estimate.specs.declared.Estimate.{Estimate}
 use Rattle.estimate.specs.declared.EstimateSource.{EstimateSource}
 use Rattle.estimate.specs.declared.EstimateSource.TheVariants.{Exact, Catalog, Sketch, Derived, Default}
@@ -41,8 +41,8 @@ flags_number e = bit e.has_lower + 2 * bit e.has_upper
 
 -- ---- read
 
-abbrev pub option_at : Bool → List ℕ → ℕ → OptionF64
-option_at present s at = cond present (some (f64_at s at)) none
+abbrev pub option_at : Bool → List ℕ → ℕ → Option Float
+option_at present s at = then_some present (f64_at s at)
 
 unfoldable pub estimate_at : List ℕ → ℕ → Estimate
 estimate_at s at =
@@ -62,11 +62,13 @@ abbrev pub bound_refusal : Bool → List ℕ → ℕ → ℕ
 bound_refusal present s at = cond present (ask (figure_lawful (f64_at s at)) 4) (ask (eqb (u64_at s at) 0) 6)
 
 -- zeros where it is absent
-abbrev pub option_bits : OptionF64 → ℕ
-option_bits x = cond x.present (to_bits binary64 x.number) 0
+abbrev pub option_bits : Option Float → ℕ
+option_bits None = 0
+option_bits (Some x) = to_bits binary64 x
 
-abbrev pub option : {C A : Type 0} → (A → OptionF64) → (C → List ℕ → ℕ → ℕ) → Field C A
-option get = pattern (λ x. (get x).number) (λ x. option_bits (get x))
+-- by its flag and its number
+abbrev pub option : {C A : Type 0} → (A → Bool) → (A → Float) → (C → List ℕ → ℕ → ℕ) → Field C A
+option present number = pattern number (λ x. option_bits (then_some (present x) (number x)))
 
 -- by the flags
 abbrev pub estimate_fields : List (Field ℕ Estimate)
@@ -74,8 +76,8 @@ estimate_fields =
     byte (λ x. source_number x.source) (λ flags s at. ask (leb (byte_at s at) 4) 6)
     ∷ byte flags_number (λ flags s at. ask (leb (byte_at s at) 3) 6)
     ∷ float (λ x. x.value) (λ flags s at. ask (figure_lawful (f64_at s at)) 4)
-    ∷ option lower_bound (λ flags. bound_refusal (lower_flag flags))
-    ∷ option upper_bound (λ flags. bound_refusal (upper_flag flags))
+    ∷ option (λ x. x.has_lower) (λ x. x.lower) (λ flags. bound_refusal (lower_flag flags))
+    ∷ option (λ x. x.has_upper) (λ x. x.upper) (λ flags. bound_refusal (upper_flag flags))
     ∷ []
 
 unfoldable pub estimate_refusal : List ℕ → ℕ → ℕ
@@ -94,10 +96,12 @@ pub record LawfulFigure (x : Float) : Type 0 where
   pub held : T (fits binary64 x)
   pub lawful : T (figure_lawful x)
 
-abbrev pub LawfulBound : OptionF64 → Type 0
-LawfulBound x = ((x.present ≡ true) × LawfulFigure x.number) ⊎ (x ≡ none)
+-- +0 where the flag is clear
+abbrev pub LawfulBound : Bool → Float → Type 0
+LawfulBound true x = LawfulFigure x
+LawfulBound false x = x ≡ f64_zero
 
 pub record LawfulEstimate (e : Estimate) : Type 0 where
   pub value : LawfulFigure e.value
-  pub lower : LawfulBound (lower_bound e)
-  pub upper : LawfulBound (upper_bound e)
+  pub lower : LawfulBound e.has_lower e.lower
+  pub upper : LawfulBound e.has_upper e.upper

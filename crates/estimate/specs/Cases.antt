@@ -1,9 +1,8 @@
 -- Worked estimates. The bytes of the first are those that document 01 prints twice in its empty case, and those of the second are that case's left rows. Assumes nothing.
-use Rattle.std.specs.Prelude.{◌≡◌, refl, ℕ, false, List, [], ◌∷◌, pos}
+use Rattle.std.specs.Prelude.{◌≡◌, refl, ℕ, false, List, [], ◌∷◌, None, Some, pos}
 use Rattle.std.specs.Float.{fin}
 use Rattle.std.specs.Float.Ieee.{of_bits, to_bits, lt, le}
 use Rattle.float.specs.Order.{f64_zero, f64_one}
-use Rattle.float.specs.Option.{some, none}
 use Rattle.le.specs.Fields.{field_at, field_bytes}
 use Rattle.estimate.specs.Estimates.{estimate_of, clamp_to_bounds, derived}
 use Rattle.estimate.specs.Bytes.{estimate_at, estimate_refusal, estimate_bytes}
@@ -15,11 +14,11 @@ certain = 3 ∷ 3 ∷ 0 ∷ 0 ∷ 0 ∷ 0 ∷ 0 ∷ 0 ∷ 0xf0 ∷ 0x3f ∷ 0 �
 abbrev hundred : List ℕ
 hundred = 1 ∷ 0 ∷ 0 ∷ 0 ∷ 0 ∷ 0 ∷ 0 ∷ 0 ∷ 0x59 ∷ 0x40 ∷ 0 ∷ 0 ∷ 0 ∷ 0 ∷ 0 ∷ 0 ∷ 0 ∷ 0 ∷ 0 ∷ 0 ∷ 0 ∷ 0 ∷ 0 ∷ 0 ∷ 0 ∷ 0 ∷ []
 
-certain_written : estimate_bytes (derived f64_one (some f64_zero) (some f64_one)) ≡ certain
+certain_written : estimate_bytes (derived f64_one (Some f64_zero) (Some f64_one)) ≡ certain
 unfolding estimate_bytes derived clamp_to_bounds field_bytes to_bits lt
 certain_written = refl
 
-certain_read : estimate_at certain 0 ≡ derived f64_one (some f64_zero) (some f64_one)
+certain_read : estimate_at certain 0 ≡ derived f64_one (Some f64_zero) (Some f64_one)
 unfolding estimate_at derived clamp_to_bounds field_at of_bits lt
 certain_read = refl
 
@@ -27,7 +26,7 @@ certain_kept : estimate_refusal certain 0 ≡ 0
 unfolding estimate_refusal field_at of_bits le
 certain_kept = refl
 
-hundred_read : estimate_at hundred 0 ≡ estimate_of (fin false 25 (pos 2)) none none Catalog
+hundred_read : estimate_at hundred 0 ≡ estimate_of (fin false 25 (pos 2)) None None Catalog
 unfolding estimate_at field_at of_bits
 hundred_read = refl
 

@@ -1,12 +1,12 @@
 // The bytes of an estimate: source, flags, value, lower, upper.
 ghost use Rattle.std.specs.Prelude.{◌≡◌, ◌≤◌, ◌<◌, ◌^◌, length};
 ghost use Rattle.le.specs.Fields.{onto};
+ghost use Rattle.rules.specs.Rules.{outcome_number};
 ghost use Rattle.layout.specs.Places.{estimate_size};
 ghost use Rattle.estimate.specs.Bytes.{source_number, source_of, lower_flag, upper_flag, flags_number, option_at, estimate_at, figure_lawful, bound_refusal, estimate_refusal, option_bits, estimate_bytes};
 
 use crate::{Estimate, EstimateSource, estimate_of};
-use float::integers::one_if;
-use float::option::{OptionF64, none, some};
+use float::bits::bits_of_float;
 use float::ranges::zero_or_between;
 use layout::{
     ESTIMATE_FLAGS_OFFSET, ESTIMATE_LOWER_OFFSET, ESTIMATE_UPPER_OFFSET, ESTIMATE_VALUE_OFFSET,
@@ -14,30 +14,34 @@ use layout::{
 use le::floats::{f64_at, put_f64};
 use le::reads::{byte_at, u64_at};
 use le::writes::{put_byte, put_u64};
-use rules::{ask, or_else};
+use rules::{Refusal, ask};
 
-pub fn source_number(source: EstimateSource) -> u8
-    ensures { result ≡ source_number source }
-{
-    match source {
-        EstimateSource::Exact => 0,
-        EstimateSource::Catalog => 1,
-        EstimateSource::Sketch => 2,
-        EstimateSource::Derived => 3,
-        EstimateSource::Default => 4,
+impl From<EstimateSource> for u8 {
+    ghost from_gives = { λ source n. n ≡ source_number source };
+
+    fn from(source: EstimateSource) -> u8 {
+        match source {
+            EstimateSource::Exact => 0,
+            EstimateSource::Catalog => 1,
+            EstimateSource::Sketch => 2,
+            EstimateSource::Derived => 3,
+            EstimateSource::Default => 4,
+        }
     }
 }
 
-// The source with the number n. A number that stands for none gives Default.
-pub fn source_of(n: u8) -> EstimateSource
-    ensures { result ≡ source_of n }
-{
-    match n {
-        0 => EstimateSource::Exact,
-        1 => EstimateSource::Catalog,
-        2 => EstimateSource::Sketch,
-        3 => EstimateSource::Derived,
-        _ => EstimateSource::Default,
+// A number that stands for no source gives Default.
+impl From<u8> for EstimateSource {
+    ghost from_gives = { λ n source. source ≡ source_of n };
+
+    fn from(n: u8) -> EstimateSource {
+        match n {
+            0 => EstimateSource::Exact,
+            1 => EstimateSource::Catalog,
+            2 => EstimateSource::Sketch,
+            3 => EstimateSource::Derived,
+            _ => EstimateSource::Default,
+        }
     }
 }
 
@@ -56,13 +60,13 @@ fn upper_flag(flags: u8) -> bool
 fn flags_number(e: Estimate) -> u8
     ensures { result ≡ flags_number e }
 {
-    one_if(e.has_lower) + 2 * one_if(e.has_upper)
+    u8::from(e.has_lower) + 2 * u8::from(e.has_upper)
 }
 
-fn option_at(present: bool, s: &[u8], at: usize) -> OptionF64
+fn option_at(present: bool, s: &[u8], at: usize) -> Option<f64>
     ensures { result ≡ option_at present s.now at }
 {
-    if present { some(f64_at(s, at)) } else { none() }
+    present.then_some(f64_at(s, at))
 }
 
 // The estimate at a place, whatever the bytes are.
@@ -77,7 +81,7 @@ pub fn estimate_at(s: &[u8], at: usize) -> Estimate
         f64_at(s, at + ESTIMATE_VALUE_OFFSET),
         option_at(lower, s, at + ESTIMATE_LOWER_OFFSET),
         option_at(upper, s, at + ESTIMATE_UPPER_OFFSET),
-        source_of(byte_at(s, at)),
+        EstimateSource::from(byte_at(s, at)),
     )
 }
 
@@ -88,40 +92,37 @@ pub fn figure_lawful(x: f64) -> bool
     zero_or_between(5.421010862427522e-20, 18446744073709551616.0, x)
 }
 
-fn bound_refusal(present: bool, s: &[u8], at: usize) -> u8
-    ensures { result ≡ bound_refusal present s.now at }
+fn bound_refusal(present: bool, s: &[u8], at: usize) -> Result<(), Refusal>
+    ensures { outcome_number result ≡ bound_refusal present s.now at }
 {
     if present {
-        ask(figure_lawful(f64_at(s, at)), 4)
+        ask(figure_lawful(f64_at(s, at)), Refusal::Figure)
     } else {
-        ask(u64_at(s, at) == 0, 6)
+        ask(u64_at(s, at) == 0, Refusal::Code)
     }
 }
 
-// The number of the first rule of an estimate that the bytes at a place break, or 0.
-pub fn estimate_refusal(s: &[u8], at: usize) -> u8
+// The first rule of an estimate that the bytes at a place break.
+#[tactic(auto, unfolding(crate::specs::Bytes::estimate_refusal))]
+pub fn estimate_refusal(s: &[u8], at: usize) -> Result<(), Refusal>
     requires { at < 2 ^ 62 }
-    ensures { result ≡ estimate_refusal s.now at }
+    ensures { outcome_number result ≡ estimate_refusal s.now at }
 {
+    ask(byte_at(s, at) <= 4, Refusal::Code)?;
     let flags = byte_at(s, at + ESTIMATE_FLAGS_OFFSET);
-    let source = ask(byte_at(s, at) <= 4, 6);
-    let known = ask(flags <= 3, 6);
-    let value = ask(figure_lawful(f64_at(s, at + ESTIMATE_VALUE_OFFSET)), 4);
-    let lower = bound_refusal(lower_flag(flags), s, at + ESTIMATE_LOWER_OFFSET);
-    let upper = bound_refusal(upper_flag(flags), s, at + ESTIMATE_UPPER_OFFSET);
-    or_else(
-        source,
-        or_else(known, or_else(value, or_else(lower, upper))),
-    )
+    ask(flags <= 3, Refusal::Code)?;
+    let value = f64_at(s, at + ESTIMATE_VALUE_OFFSET);
+    ask(figure_lawful(value), Refusal::Figure)?;
+    bound_refusal(lower_flag(flags), s, at + ESTIMATE_LOWER_OFFSET)?;
+    bound_refusal(upper_flag(flags), s, at + ESTIMATE_UPPER_OFFSET)
 }
 
-fn option_bits(x: OptionF64) -> u64
+fn option_bits(x: Option<f64>) -> u64
     ensures { result ≡ option_bits x }
 {
-    if x.present {
-        float::bits::bits_of_float(x.number)
-    } else {
-        0
+    match x {
+        Some(x) => bits_of_float(x),
+        None => 0,
     }
 }
 
@@ -130,8 +131,7 @@ pub fn put_estimate(out: &mut [u8], e: Estimate)
     requires { estimate_size ≤ length out.old }
     ensures { out.new ≡ onto (estimate_bytes e) out.old }
 {
-    let source = e.source;
-    put_byte(out, source_number(source));
+    put_byte(out, u8::from(e.source));
     put_byte(&mut out[ESTIMATE_FLAGS_OFFSET..], flags_number(e));
     put_f64(&mut out[ESTIMATE_VALUE_OFFSET..], e.value);
     put_u64(

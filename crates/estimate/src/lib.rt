@@ -1,16 +1,14 @@
-// The source's Estimate: a value, optional bounds and where it comes from. A bound is a flag and a
-// number, which is +0 where there is none.
+// The source's Estimate: a value, optional bounds and where it comes from.
 #![tactic(auto)]
 
 ghost use Rattle.std.specs.Prelude.{◌≡◌};
 ghost use Rattle.estimate.specs.Estimates.{estimate_of, lower_bound, upper_bound, raised, lowered, clamp_to_bounds, exact, derived, default, max_by_value, min_by_value};
 
-use float::option::{OptionF64, none, some};
 use float::order::{f64_max, f64_min};
 
 pub mod bytes;
 
-#[derive(Clone, Copy)]
+#[derive(Clone, Copy, Debug, PartialEq, Eq)]
 pub enum EstimateSource {
     Exact,
     Catalog,
@@ -19,6 +17,7 @@ pub enum EstimateSource {
     Default,
 }
 
+// The form is document 01's: a bound is a flag and a number, which is +0 where there is none.
 #[derive(Clone, Copy)]
 pub struct Estimate {
     pub value: f64,
@@ -32,45 +31,43 @@ pub struct Estimate {
 // From bounds that are options.
 pub fn estimate_of(
     value: f64,
-    lower: OptionF64,
-    upper: OptionF64,
+    lower: Option<f64>,
+    upper: Option<f64>,
     source: EstimateSource,
 ) -> Estimate
     ensures { result ≡ estimate_of value lower upper source }
 {
     Estimate {
         value,
-        lower: lower.number,
-        upper: upper.number,
-        has_lower: lower.present,
-        has_upper: upper.present,
+        lower: lower.unwrap_or(0.0),
+        upper: upper.unwrap_or(0.0),
+        has_lower: lower.is_some(),
+        has_upper: upper.is_some(),
         source,
     }
 }
 
 // value, at least the lower bound where there is one.
-fn raised(value: f64, lower: OptionF64) -> f64
+fn raised(value: f64, lower: Option<f64>) -> f64
     ensures { result ≡ raised value lower }
 {
-    if lower.present {
-        f64_max(value, lower.number)
-    } else {
-        value
+    match lower {
+        Some(lower) => f64_max(value, lower),
+        None => value,
     }
 }
 
 // value, at most the upper bound where there is one.
-fn lowered(value: f64, upper: OptionF64) -> f64
+fn lowered(value: f64, upper: Option<f64>) -> f64
     ensures { result ≡ lowered value upper }
 {
-    if upper.present {
-        f64_min(value, upper.number)
-    } else {
-        value
+    match upper {
+        Some(upper) => f64_min(value, upper),
+        None => value,
     }
 }
 
-pub fn clamp_to_bounds(value: f64, lower: OptionF64, upper: OptionF64) -> f64
+pub fn clamp_to_bounds(value: f64, lower: Option<f64>, upper: Option<f64>) -> f64
     ensures { result ≡ clamp_to_bounds value lower upper }
 {
     lowered(raised(f64_max(value, 0.0), lower), upper)
@@ -80,10 +77,10 @@ impl Estimate {
     pub fn exact(value: f64) -> Estimate
         ensures { result ≡ exact value }
     {
-        estimate_of(value, some(value), some(value), EstimateSource::Exact)
+        estimate_of(value, Some(value), Some(value), EstimateSource::Exact)
     }
 
-    pub fn derived(value: f64, lower: OptionF64, upper: OptionF64) -> Estimate
+    pub fn derived(value: f64, lower: Option<f64>, upper: Option<f64>) -> Estimate
         ensures { result ≡ derived value lower upper }
     {
         estimate_of(
@@ -97,25 +94,19 @@ impl Estimate {
     pub fn default(value: f64) -> Estimate
         ensures { result ≡ default value }
     {
-        estimate_of(value, some(0.0), none(), EstimateSource::Default)
+        estimate_of(value, Some(0.0), None, EstimateSource::Default)
     }
 
-    pub fn lower_bound(self) -> OptionF64
+    pub fn lower_bound(self) -> Option<f64>
         ensures { result ≡ lower_bound self }
     {
-        OptionF64 {
-            present: self.has_lower,
-            number: self.lower,
-        }
+        self.has_lower.then_some(self.lower)
     }
 
-    pub fn upper_bound(self) -> OptionF64
+    pub fn upper_bound(self) -> Option<f64>
         ensures { result ≡ upper_bound self }
     {
-        OptionF64 {
-            present: self.has_upper,
-            number: self.upper,
-        }
+        self.has_upper.then_some(self.upper)
     }
 
     pub fn max_by_value(self, other: Estimate) -> Estimate

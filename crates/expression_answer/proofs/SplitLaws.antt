@@ -9,11 +9,9 @@ use Rattle.le.specs.Fields.{u16_bytes, onto}
 use Rattle.le.proofs.FieldLaws.{bytes_length}
 use Rattle.le.proofs.OntoLaws.{onto_part, onto_length}
 use Rattle.layout.specs.Places.{operand_limit, count_size, number_size}
-use Rattle.sheet.specs.Check.{check}
+use Rattle.sheet.specs.Check.{Checked, Accepted, check}
 use Rattle.sheet.specs.Sheet.{Sheet, sheet_of, sheet_in}
 use Rattle.sheet.specs.declared.Sections.{Sections}
-use Rattle.sheet.specs.declared.Checked.{Checked}
-use Rattle.sheet.specs.declared.Checked.TheVariants.{Accepted}
 use Rattle.sheet.proofs.AcceptedLaws.{accepted}
 use Rattle.number_bytes.specs.Numbers.{numbers_bytes}
 use Rattle.number_bytes.proofs.NumberLaws.{numbers_length, numbers_append, counted_length}

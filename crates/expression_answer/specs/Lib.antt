@@ -1,3 +1,2 @@
 pub mod Predicate
 pub mod Split
-pub mod Question

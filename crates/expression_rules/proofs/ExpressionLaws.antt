@@ -17,7 +17,7 @@ use Rattle.layout.specs.Lawful.{LawfulField, as_field}
 use Rattle.layout.proofs.LayoutLaws.{EachField, ◌and◌, sizes, record_kept, record_accepted, record_room, stands, written, record_lawful, sized_lawful, sized_read, byte_lawful, byte_read, byte_back}
 use Rattle.scalar.specs.declared.Scalar.{Scalar}
 use Rattle.scalar.specs.declared.Scalar.TheVariants.{Null, Boolean, Int32, Int64, Float64, Decimal128, Date32, IntervalMonthDayNano, IntervalDayTime}
-use Rattle.scalar.specs.declared.Bound.TheVariants.{Absent, Present}
+use Rattle.std.specs.Prelude.{Some, None}
 use Rattle.scalar_bytes.specs.Reading.{scalar_refusal, scalar_at, bound_at, zeros_at}
 use Rattle.scalar_bytes.specs.Encoding.{encoded_bytes, bound_bytes, lawful_scalar, lawful_bound, place_allows}
 use Rattle.scalar_bytes.specs.declared.reads.ScalarPlace.TheVariants.{Literal as AtLiteral}
@@ -41,7 +41,7 @@ use Rattle.expression_rules.specs.Lawful.{LawfulFields}
 pub expression_size_law : size_of expression_fields ≡ expression_size
 expression_size_law = refl
 
-given_lawful : (x : Scalar) → lawful_scalar x ≡ true → lawful_bound (Present x) ≡ true
+given_lawful : (x : Scalar) → lawful_scalar x ≡ true → lawful_bound (Some x) ≡ true
 unfolding lawful_bound
 given_lawful x h = h
 
@@ -51,7 +51,7 @@ expression_fields_law =
     and byte_lawful LawfulFields expression_op _
     and sized_lawful LawfulFields number_size expression_first _ (λ x h. h.first)
     and sized_lawful LawfulFields number_size expression_second _ (λ x h. h.second)
-    and bound_lawful LawfulFields (λ x. Present (expression_scalar x)) _ (λ x h. given_lawful (expression_scalar x) h.scalar)
+    and bound_lawful LawfulFields (λ x. Some (expression_scalar x)) _ (λ x h. given_lawful (expression_scalar x) h.scalar)
     and tt
 
 pub expression_lawful : LawfulField LawfulFields (as_field expression_fields)
@@ -126,7 +126,7 @@ kind_kept Other = refl
 
 -- ---- scalars
 
-given_allowed : (x : Scalar) → place_allows AtLiteral (Present x) ≡ true
+given_allowed : (x : Scalar) → place_allows AtLiteral (Some x) ≡ true
 unfolding place_allows
 given_allowed Null = refl
 given_allowed (Boolean b) = refl
@@ -138,16 +138,16 @@ given_allowed (Date32 x) = refl
 given_allowed (IntervalMonthDayNano months days nanoseconds) = refl
 given_allowed (IntervalDayTime days milliseconds) = refl
 
-null_bytes : bound_bytes (Present Null) ≡ field_bytes scalar_size 0
+null_bytes : bound_bytes (Some Null) ≡ field_bytes scalar_size 0
 unfolding bound_bytes encoded_bytes field_bytes
 null_bytes = refl
 
-null_zeros : (s t : List ℕ) (at : ℕ) → drop at s ≡ bound_bytes (Present Null) ++ t → ask (zeros_at scalar_size s at) 6 ≡ 0
+null_zeros : (s t : List ℕ) (at : ℕ) → drop at s ≡ bound_bytes (Some Null) ++ t → ask (zeros_at scalar_size s at) 6 ≡ 0
 null_zeros s t at e = ap (λ (n : ℕ). ask (eqb n 0) 6) (field_found scalar_size 0 s t at (ltb-true 0 (256 ^ scalar_size) refl) (e ∙ ap (λ (l : List ℕ). l ++ t) null_bytes))
 
-literal_kept : (x : Expression) (s t : List ℕ) (at : ℕ) → lawful_scalar (expression_scalar x) ≡ true → drop at s ≡ bound_bytes (Present (expression_scalar x)) ++ t → literal_refusal (kind_number x) s at ≡ 0
+literal_kept : (x : Expression) (s t : List ℕ) (at : ℕ) → lawful_scalar (expression_scalar x) ≡ true → drop at s ≡ bound_bytes (Some (expression_scalar x)) ++ t → literal_refusal (kind_number x) s at ≡ 0
 unfolding literal_refusal
-literal_kept (Literal x) s t at h e = bound_accepted s at AtLiteral (Present x) t (given_lawful x h) (given_allowed x) e
+literal_kept (Literal x) s t at h e = bound_accepted s at AtLiteral (Some x) t (given_lawful x h) (given_allowed x) e
 literal_kept (ColumnRef column) s t at h e = null_zeros s t at e
 literal_kept (Unary op expr) s t at h e = null_zeros s t at e
 literal_kept (Binary op left right) s t at h e = null_zeros s t at e
@@ -270,22 +270,22 @@ fields_back (suc (suc (suc (suc (suc (suc zero)))))) o a b i run v h l f g = rec
 fields_back (suc (suc (suc (suc (suc (suc (suc k))))))) o a b i run v h l f g = absurd (omega arith)
 
 -- a literal's scalar is there
-given_at : (s : List ℕ) (at : ℕ) → scalar_refusal AtLiteral s at ≡ 0 → bound_at s at ≡ Present (scalar_at s at)
+given_at : (s : List ℕ) (at : ℕ) → scalar_refusal AtLiteral s at ≡ 0 → bound_at s at ≡ Some (scalar_at s at)
 unfolding bound_at place_allows
 given_at s at e = go (eqb (byte_at s at) 255) (accepted_allowed AtLiteral s at e)
   where
-    go : (b : Bool) → place_allows AtLiteral (cond b Absent (Present (scalar_at s at))) ≡ true → cond b Absent (Present (scalar_at s at)) ≡ Present (scalar_at s at)
+    go : (b : Bool) → place_allows AtLiteral (cond b None (Some (scalar_at s at))) ≡ true → cond b None (Some (scalar_at s at)) ≡ Some (scalar_at s at)
     go true h = absurd (false≢true h)
     go false h = refl
 
 module _ (s : List ℕ) (at : ℕ) (bytes : Bytes s) (room : at + scalar_size ≤ length s) where
-  scalar_written_law : scalar_refusal AtLiteral s at ≡ 0 → bound_bytes (Present (scalar_at s at)) ≡ take scalar_size (drop at s)
+  scalar_written_law : scalar_refusal AtLiteral s at ≡ 0 → bound_bytes (Some (scalar_at s at)) ≡ take scalar_size (drop at s)
   scalar_written_law e = ap bound_bytes (sym (given_at s at e)) ∙ written_back AtLiteral s at bytes room e
 
-  zeros_written : ask (zeros_at scalar_size s at) 6 ≡ 0 → bound_bytes (Present Null) ≡ take scalar_size (drop at s)
+  zeros_written : ask (zeros_at scalar_size s at) 6 ≡ 0 → bound_bytes (Some Null) ≡ take scalar_size (drop at s)
   zeros_written e = null_bytes ∙ ap (field_bytes scalar_size) (zero_kept (field_at scalar_size s at) e) ∙ bytes_back scalar_size s at bytes room
 
-  literal_written : (k o a b : ℕ) → k ≤ 6 → literal_refusal k s at ≡ 0 → bound_bytes (Present (expression_scalar (expression_of k o a b (scalar_at s at)))) ≡ take scalar_size (drop at s)
+  literal_written : (k o a b : ℕ) → k ≤ 6 → literal_refusal k s at ≡ 0 → bound_bytes (Some (expression_scalar (expression_of k o a b (scalar_at s at)))) ≡ take scalar_size (drop at s)
   unfolding literal_refusal
   literal_written zero o a b h e = scalar_written_law e
   literal_written (suc zero) o a b h e = zeros_written e

@@ -27,23 +27,26 @@ holding_end : (s : List ℕ) (x i f n : ℕ) → n ≡ 0 → first_holding s x i
 unfolding first_holding
 holding_end s x i f n e = rw e refl
 
-module _ (s : List ℕ) (x i f n t : ℕ) (rest : first_holding s x i f (n - f) ≡ t) where
-  more : f < n → cond (run_holds s x i f) f (first_holding s x i (f + 1) (n - (f + 1))) ≡ t
-  more l =
+-- a loop that looks for it stands at the f-th of n
+module _ (s : List ℕ) (x i f n : ℕ) where
+  holding_by : f < n → first_holding s x i f (n - f) ≡ cond (run_holds s x i f) f (first_holding s x i (f + 1) (n - (f + 1)))
+  holding_by l =
       let h : 0 < n - f = omega arith in
       let k : n - f - 1 ≡ n - (f + 1) = omega arith in
-      ap (λ (m : ℕ). cond (run_holds s x i f) f (first_holding s x i (f + 1) m)) (sym k) ∙ sym (holding_more s x i f (n - f) h) ∙ rest
+      holding_more s x i f (n - f) h ∙ ap (λ (m : ℕ). cond (run_holds s x i f) f (first_holding s x i (f + 1) m)) k
 
-  pub holding_next : f < n → run_holds s x i f ≡ false → first_holding s x i (f + 1) (n - (f + 1)) ≡ t
-  holding_next l e = ap (λ (b : Bool). cond b f (first_holding s x i (f + 1) (n - (f + 1)))) (sym e) ∙ more l
+  pub holding_next : f < n → run_holds s x i f ≡ false → first_holding s x i f (n - f) ≡ first_holding s x i (f + 1) (n - (f + 1))
+  holding_next l e = holding_by l ∙ ap (λ (b : Bool). cond b f (first_holding s x i (f + 1) (n - (f + 1)))) e
 
-  pub holding_found : f < n → run_holds s x i f ≡ true → f ≡ t
-  holding_found l e = ap (λ (b : Bool). cond b f (first_holding s x i (f + 1) (n - (f + 1)))) (sym e) ∙ more l
+  pub holding_found : f < n → run_holds s x i f ≡ true → first_holding s x i f (n - f) ≡ f
+  holding_found l e = holding_by l ∙ ap (λ (b : Bool). cond b f (first_holding s x i (f + 1) (n - (f + 1)))) e
 
-  pub holding_none : n ≤ f → f ≡ t
+  pub holding_none : n ≤ f → first_holding s x i f (n - f) ≡ f
   holding_none l =
       let k : n - f ≡ 0 = omega arith in
-      sym (holding_end s x i f (n - f) k) ∙ rest
+      holding_end s x i f (n - f) k
+
+pub ruleset holding_steps = (holding_next, holding_found, holding_none)
 
 -- ---- how many operands there are before an expression
 

@@ -1,5 +1,5 @@
 // The rules of expressions, and of the operands and conjuncts that name them. A function named for a
-// refusal gives the number of the first rule broken, in the order of the bytes, or 0.
+// refusal gives the first rule broken, in the order of the bytes.
 #![tactic(auto)]
 
 pub mod expressions;

@@ -3,7 +3,7 @@ use Rattle.std.proofs.Common.{◌≡◌, ℕ, zero, suc, ◌+◌, ◌-◌, ◌*�
 use Prim.Native.Nat.{compare}
 use lib.IntN.{sub_ℕ}
 use lib.Signed.{mag}
-use lib.Ieee.{inf, Format, binary64, prec, emax, low, size, nearest, odd, units, round, neg, of_int}
+use lib.Ieee.{inf, Format, prec, emax, low, size, nearest, odd, units, round, neg, of_int}
 use lib.Ieee.Fits.{round_is}
 use Rattle.float.specs.Integers.{offset}
 
@@ -107,10 +107,3 @@ round_neg f n d =
 pub of_int_neg : (f : Format) (d : ℕ) → of_int f (negsuc d) ≡ neg (of_int f (pos (suc d)))
 unfolding of_int
 of_int_neg f d = round_neg f (suc d) 1
-
--- ---- the float of x + p - y, where that is d, and where it is - (d + 1)
-pub of_int_above : (x y p d : ℕ) → d + y ≡ x + p → of_int binary64 (pos d) ≡ of_int binary64 (sub_ℕ (x + p) y)
-of_int_above x y p d e = ap (of_int binary64) (sym (subℕ_pos (x + p) y d e))
-
-pub of_int_below : (x y p d : ℕ) → suc d + (x + p) ≡ y → neg (of_int binary64 (pos (suc d))) ≡ of_int binary64 (sub_ℕ (x + p) y)
-of_int_below x y p d e = sym (ap (of_int binary64) (subℕ_neg (x + p) y d e) ∙ of_int_neg binary64 d)

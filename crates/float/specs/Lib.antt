@@ -2,4 +2,3 @@ pub mod Order
 pub mod Ranges
 pub mod Integers
 pub mod Tens
-pub mod Option

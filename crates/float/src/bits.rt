@@ -6,18 +6,12 @@ ghost use Rattle.std.specs.Float.{binary64};
 pub fn float_of_bits(b: u64) -> f64
     ensures { result ≡ from_bits binary64 b }
 {
-    if b % 0x8000_0000_0000_0000 <= 0x7ff0_0000_0000_0000 {
-        return f64::from_bits(b);
-    }
-    0.0 / 0.0
+    std::num::f64_from_bits_with_nan(b)
 }
 
 // The pattern of x. A NaN gives the quiet one, with the sign clear.
 pub fn bits_of_float(x: f64) -> u64
     ensures { result ≡ to_bits binary64 x }
 {
-    if x == x {
-        return f64::to_bits(x);
-    }
-    0x7ff8_0000_0000_0000
+    std::num::f64_to_bits_with_nan(x)
 }

@@ -4,7 +4,6 @@
 
 pub mod bits;
 pub mod integers;
-pub mod option;
 pub mod order;
 pub mod ranges;
 pub mod tens;

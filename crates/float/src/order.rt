@@ -2,6 +2,7 @@
 ghost use Rattle.std.specs.Prelude.{◌≡◌};
 ghost use Rattle.float.specs.Order.{f64_max, f64_min, clamp_unit, absolute};
 
+// Not std's `max` and `min`: those may give either of two zeros of unlike sign.
 pub fn f64_max(x: f64, y: f64) -> f64
     ensures { result ≡ f64_max x y }
 {
@@ -17,15 +18,10 @@ pub fn f64_min(x: f64, y: f64) -> f64
 pub fn clamp_unit(x: f64) -> f64
     ensures { result ≡ clamp_unit x }
 {
-    if x < 0.0 {
-        0.0
-    } else if 1.0 < x {
-        1.0
-    } else {
-        x
-    }
+    x.clamp(0.0, 1.0)
 }
 
+// Not std's `abs`, which takes the sign of -0 off.
 pub fn absolute(x: f64) -> f64
     ensures { result ≡ absolute x }
 {

@@ -11,15 +11,11 @@ pub fn plus_zero(x: f64) -> bool
 pub fn between(low: f64, high: f64, x: f64) -> bool
     ensures { result ≡ between low high x }
 {
-    if low <= x { x <= high } else { false }
+    low <= x && x <= high
 }
 
 pub fn zero_or_between(low: f64, high: f64, x: f64) -> bool
     ensures { result ≡ zero_or_between low high x }
 {
-    if plus_zero(x) {
-        true
-    } else {
-        between(low, high, x)
-    }
+    plus_zero(x) || between(low, high, x)
 }

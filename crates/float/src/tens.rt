@@ -32,8 +32,5 @@ const TENS: [f64; 23] = [
 pub fn power_of_ten(k: u8) -> f64
     ensures { result ≡ power_of_ten k }
 {
-    if k < 22 {
-        return TENS[k as usize];
-    }
-    TENS[22]
+    TENS[usize::from(k.min(22))]
 }

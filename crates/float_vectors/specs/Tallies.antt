@@ -1,28 +1,33 @@
 -- How many records of a list are of a kind, and how many of them differ. Definitions only.
-use Rattle.std.specs.Prelude.{ℕ, zero, suc, ◌+◌, ◌*◌, ◌/◌, Bool, false, not, cond, List, eqb, ltb, length}
-use Rattle.float.specs.Integers.{bit}
-use Rattle.le.specs.Fields.{byte_at}
-use Rattle.float_vectors.specs.Verdicts.{agrees_at}
+use Rattle.std.specs.Prelude.{ℕ, ◌/◌, Bool, not, ◌&&◌, List, Option, Some, None, eqb, length, count_by}
+use Rattle.std.specs.Simd.{first_chunks}
+use Rattle.float_vectors.specs.Verdicts.{case_of, agrees}
+use Rattle.float_vectors.specs.declared.kinds.Kind.{Kind}
+use Rattle.float_vectors.specs.declared.kinds.Kind.TheVariants.{Root, Power, Difference, NextDifference, Integer, Ten}
 use Rattle.float_vectors.specs.declared.tallies.Tally.{Tally}
 
--- the kinds 1 .. 6 are known, and 0 stands for all others
-unfoldable pub known_kind : ℕ → ℕ
-known_kind kind = cond (ltb kind 7) kind 0
+-- 0 stands for no kind
+abbrev pub number_of : Option Kind → ℕ
+number_of None = 0
+number_of (Some Root) = 1
+number_of (Some Power) = 2
+number_of (Some Difference) = 3
+number_of (Some NextDifference) = 4
+number_of (Some Integer) = 5
+number_of (Some Ten) = 6
 
--- record i stands at byte i * 25
-unfoldable pub is_of : List ℕ → ℕ → ℕ → Bool
-is_of s kind i = eqb (known_kind (byte_at s (i * 25))) kind
+abbrev pub is_of : Option Kind → List ℕ → Bool
+is_of kind r = eqb (number_of (case_of r).kind) (number_of kind)
 
-unfoldable pub differs_in : List ℕ → ℕ → ℕ → Bool
-differs_in s kind i = cond (is_of s kind i) (not (agrees_at s (i * 25))) false
+abbrev pub differs_in : Option Kind → List ℕ → Bool
+differs_in kind r = is_of kind r && not (agrees (case_of r))
 
--- how many of the n numbers from i on pass the test
-unfoldable pub count : (ℕ → Bool) → ℕ → ℕ → ℕ
-count test i zero = 0
-count test i (suc n) = bit (test i) + count test (i + 1) n
+-- the whole records of a list, 25 bytes each
+abbrev pub records_of : List ℕ → List (List ℕ)
+records_of s = first_chunks 25 (length s / 25) s
 
-unfoldable pub tally_of : List ℕ → ℕ → Tally
+unfoldable pub tally_of : List ℕ → Option Kind → Tally
 tally_of s kind = record {
-  cases = count (is_of s kind) 0 (length s / 25);
-  differ = count (differs_in s kind) 0 (length s / 25);
+  cases = count_by (is_of kind) (records_of s);
+  differ = count_by (differs_in kind) (records_of s);
 }

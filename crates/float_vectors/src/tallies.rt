@@ -1,61 +1,62 @@
 // How many records of a list are of a kind, and how many of them differ.
-ghost use Rattle.std.specs.Prelude.{◌≡◌, ◌+◌, ◌*◌, ◌≤◌, length};
-ghost use Rattle.float.specs.Integers.{bit};
-ghost use Rattle.float_vectors.specs.Tallies.{known_kind, is_of, differs_in, tally_of};
+#![tactic(auto, unfolding(crate::specs::Tallies::tally_of))]
 
-use crate::verdicts::agrees_at;
-use le::reads::byte_at;
+ghost use Rattle.std.specs.Prelude.{◌≡◌, count_by};
+ghost use Rattle.float_vectors.specs.Tallies.{is_of, differs_in, tally_of};
+
+use crate::kinds::Kind;
+use crate::verdicts::{Case, RECORD_SIZE, Record};
+use std::fmt;
 
 #[derive(Clone, Copy)]
 pub struct Tally {
-    pub cases: u64,
-    pub differ: u64,
+    cases: usize,
+    differ: usize,
 }
 
-// 0 for a kind that is not known.
-fn known_kind(kind: u8) -> u8
-    ensures { result ≡ known_kind kind }
-{
-    if kind < 7 { kind } else { 0 }
-}
-
-// Whether record i is of the kind.
-fn is_of(s: &[u8], kind: u8, i: usize) -> bool
-    requires { i * 25 + 25 ≤ length s.now }
-    ensures { result ≡ is_of s.now kind i }
-{
-    known_kind(byte_at(s, i * 25)) == kind
-}
-
-// Whether record i is of the kind and differs. Records of other kinds are not computed.
-fn differs_in(s: &[u8], kind: u8, i: usize) -> bool
-    requires { i * 25 + 25 ≤ length s.now }
-    ensures { result ≡ differs_in s.now kind i }
-{
-    if is_of(s, kind, i) {
-        return !agrees_at(s, i * 25);
+impl fmt::Display for Tally {
+    fn fmt<W: fmt::Write>(&self, f: &mut fmt::Formatter<W>) -> fmt::Result {
+        let Tally { cases, differ } = *self;
+        write!(f, "{cases} cases, {differ} differ")
     }
-    false
 }
 
-fn one_if(b: bool) -> u64
-    ensures { (result ≡ bit b) × (result ≤ 1) }
+fn is_of(bytes: &Record, kind: Option<Kind>) -> bool
+    ensures { result ≡ is_of kind bytes.now }
 {
-    if b { 1 } else { 0 }
+    Case::from(bytes).kind == kind
 }
 
-// The records of a kind among the whole records of s.
-pub fn tally_of(s: &[u8], kind: u8) -> Tally
+// Cases of other kinds are not computed.
+fn differs_in(bytes: &Record, kind: Option<Kind>) -> bool
+    ensures { result ≡ differs_in kind bytes.now }
+{
+    let case = Case::from(bytes);
+    case.kind == kind && !case.agrees()
+}
+
+fn cases_in(records: &[Record], kind: Option<Kind>) -> usize
+    ensures { result ≡ count_by (is_of kind) records.now }
+{
+    records.iter().filter(|bytes| is_of(*bytes, kind)).count()
+}
+
+fn differing_in(records: &[Record], kind: Option<Kind>) -> usize
+    ensures { result ≡ count_by (differs_in kind) records.now }
+{
+    records
+        .iter()
+        .filter(|bytes| differs_in(*bytes, kind))
+        .count()
+}
+
+// The records of a kind, or of none that is known, among the whole records of s.
+pub fn tally_of(s: &[u8], kind: Option<Kind>) -> Tally
     ensures { result ≡ tally_of s.now kind }
 {
-    let n = s.len() / 25;
-    let mut cases = 0u64;
-    let mut differ = 0u64;
-    let mut i = 0usize;
-    while i < n {
-        cases += one_if(is_of(s, kind, i));
-        differ += one_if(differs_in(s, kind, i));
-        i += 1;
+    let (records, _) = s.as_chunks::<RECORD_SIZE>();
+    Tally {
+        cases: cases_in(records, kind),
+        differ: differing_in(records, kind),
     }
-    Tally { cases, differ }
 }

@@ -1,85 +1,70 @@
 // Whether a record's expected bits are those that the crates compute.
-ghost use Rattle.std.specs.Prelude.{◌≡◌, ◌+◌, ◌≤◌, length};
-ghost use Rattle.float_vectors.specs.Verdicts.{root_bits, power_bits, difference_bits, next_difference_bits, integer_bits, ten_bits, agrees, agrees_at};
+#![tactic(auto, unfolding(crate::specs::Verdicts::value_of, crate::specs::Verdicts::case_of, crate::specs::Verdicts::agrees_with))]
 
+ghost use Rattle.std.specs.Prelude.{◌≡◌};
+ghost use Rattle.float_vectors.specs.Verdicts.{value_of, case_of, agrees};
+
+use crate::kinds::Kind;
 use float::bits::{bits_of_float, float_of_bits};
-use le::reads::{byte_at, u64_at};
+use float::integers::{nearest_difference, nearest_i64};
+use float::tens::power_of_ten;
+use le::reads::u64_at;
+use power::power;
+use root::root;
 use signed::signed_u64;
 
-fn root_bits(a: u64) -> u64
-    ensures { result ≡ root_bits a }
-{
-    bits_of_float(root::root(float_of_bits(a)))
+// A record: its kind, and from these places on eight bytes of a, of b and of the expected bits.
+const A: usize = 1;
+
+const B: usize = 9;
+
+const EXPECTED: usize = 17;
+
+pub const RECORD_SIZE: usize = 25;
+
+pub type Record = [u8; RECORD_SIZE];
+
+// What a record claims: that these are the bits of the value that its kind gives of a and b.
+#[derive(Clone, Copy)]
+pub struct Case {
+    pub kind: Option<Kind>,
+    a: u64,
+    b: u64,
+    expected: u64,
 }
 
-fn power_bits(a: u64, b: u64) -> u64
-    ensures { result ≡ power_bits a b }
-{
-    bits_of_float(power::power(float_of_bits(a), float_of_bits(b)))
-}
+impl From<&Record> for Case {
+    ghost from_gives = { λ bytes case. case ≡ case_of bytes.now };
 
-fn difference_bits(a: u64, b: u64) -> u64
-    ensures { result ≡ difference_bits a b }
-{
-    bits_of_float(float::integers::nearest_difference(signed_u64(a), signed_u64(b), false))
-}
-
-fn next_difference_bits(a: u64, b: u64) -> u64
-    ensures { result ≡ next_difference_bits a b }
-{
-    bits_of_float(float::integers::nearest_difference(signed_u64(a), signed_u64(b), true))
-}
-
-fn integer_bits(a: u64) -> u64
-    ensures { result ≡ integer_bits a }
-{
-    bits_of_float(float::integers::nearest_i64(signed_u64(a)))
+    fn from(bytes: &Record) -> Case {
+        Case {
+            kind: Kind::try_from(bytes[0]).ok(),
+            a: u64_at(bytes, A),
+            b: u64_at(bytes, B),
+            expected: u64_at(bytes, EXPECTED),
+        }
+    }
 }
 
 // `power_of_ten` gives 10^22 for every exponent from 22 on.
-fn ten_bits(a: u64) -> u64
-    ensures { result ≡ ten_bits a }
+fn value_of(kind: Kind, a: u64, b: u64) -> f64
+    ensures { result ≡ value_of kind a b }
 {
-    if a < 22 {
-        return bits_of_float(float::tens::power_of_ten(a as u8));
+    match kind {
+        Kind::Root => root(float_of_bits(a)),
+        Kind::Power => power(float_of_bits(a), float_of_bits(b)),
+        Kind::Difference => nearest_difference(signed_u64(a), signed_u64(b), false),
+        Kind::NextDifference => nearest_difference(signed_u64(a), signed_u64(b), true),
+        Kind::Integer => nearest_i64(signed_u64(a)),
+        Kind::Ten => power_of_ten(a.min(22) as u8),
     }
-    bits_of_float(float::tens::power_of_ten(22))
 }
 
-// The verdict on one case. A kind that is not known agrees with nothing.
-fn agrees(kind: u8, a: u64, b: u64, expected: u64) -> bool
-    ensures { result ≡ agrees kind a b expected }
-{
-    if kind == 1 {
-        return root_bits(a) == expected;
+impl Case {
+    // A kind that is not known agrees with nothing.
+    pub fn agrees(&self) -> bool
+        ensures { result ≡ agrees self.now }
+    {
+        self.kind.is_some_and(|kind| bits_of_float(value_of(kind, self.a, self.b)) == self.expected)
     }
-    if kind == 2 {
-        return power_bits(a, b) == expected;
-    }
-    if kind == 3 {
-        return difference_bits(a, b) == expected;
-    }
-    if kind == 4 {
-        return next_difference_bits(a, b) == expected;
-    }
-    if kind == 5 {
-        return integer_bits(a) == expected;
-    }
-    if kind == 6 {
-        return ten_bits(a) == expected;
-    }
-    false
-}
-
-// The verdict on the record at a place.
-pub fn agrees_at(s: &[u8], at: usize) -> bool
-    requires { at + 25 ≤ length s.now }
-    ensures { result ≡ agrees_at s.now at }
-{
-    agrees(
-        byte_at(s, at),
-        u64_at(s, at + 1),
-        u64_at(s, at + 9),
-        u64_at(s, at + 17),
-    )
 }

@@ -12,9 +12,10 @@ use Rattle.units.specs.Sizes.{UpTo, AtLeast, Spread, Tame}
 use Rattle.units.proofs.SizeLaws.{at_least_positive}
 use Rattle.units.proofs.SpreadLaws.{spread_max_zero, div_spread, spread_clamped}
 use Rattle.units.proofs.TameLaws.{tame_difference}
-use lib.Ieee.Scale.{finite}
-use Rattle.interval.specs.Fraction.{continuous}
-use Rattle.interval.specs.declared.fraction.IntervalFraction.TheVariants.{NoFraction, Fraction}
+use Rattle.std.specs.Float.{float_is_finite}
+use Rattle.interval.specs.Intervals.{interval_of}
+use Rattle.interval.specs.Fraction.{ends_of, continuous}
+use Rattle.std.specs.Prelude.{Some, None}
 use Rattle.fraction_range.specs.Distinct.{InUnit}
 
 -- ---- a width that is neither below zero nor zero
@@ -43,15 +44,15 @@ share_unit x w s t b e =
     let u = width_up_to 452 401 w t b in
     spread_clamped 853 853 (div binary64 x w) (div_spread 452 401 452 401 x w (lit≤ tt) (lit≤ tt) s (width_at_least 452 401 w t u.low e) u)
 
-by_tests : (x : Float) (f b z : Bool) → (b ≡ false → z ≡ false → Unit01 x) → InUnit (cond (not f || b) NoFraction (cond z (Fraction f64_one) (Fraction x)))
+by_tests : (x : Float) (f b z : Bool) → (b ≡ false → z ≡ false → Unit01 x) → InUnit (cond (not f || b) None (cond z (Some f64_one) (Some x)))
 by_tests x false b z k = tt
 by_tests x true true z k = tt
 by_tests x true false true k = one_unit
 by_tests x true false false k = k refl refl
 
-pub continuous_unit : (lower upper overlap_lower overlap_upper : Float) → Tame lower → Tame upper → Tame overlap_lower → Tame overlap_upper → InUnit (continuous lower upper overlap_lower overlap_upper)
+pub continuous_unit : (lower upper overlap_lower overlap_upper : Float) → Tame lower → Tame upper → Tame overlap_lower → Tame overlap_upper → InUnit (continuous (ends_of (interval_of lower upper) (interval_of overlap_lower overlap_upper)))
 unfolding continuous
 continuous_unit l u ol ou a b c d =
     let w = sub binary64 u l in
-    by_tests (clamp_unit (div binary64 (sub binary64 ou ol) w)) (finite w) (lt w f64_zero) (eq w f64_zero)
+    by_tests (clamp_unit (div binary64 (sub binary64 ou ol) w)) (float_is_finite w) (lt w f64_zero) (eq w f64_zero)
     (share_unit (sub binary64 ou ol) w (tame_difference ou ol d c) (tame_difference u l b a))

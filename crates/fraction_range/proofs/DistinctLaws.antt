@@ -9,8 +9,7 @@ use Rattle.float.proofs.NonNegLaws.{le_trans, not_lt_le}
 use Rattle.float.proofs.OrderLaws.{lt_le}
 use Rattle.scalar.specs.Order.{scalar_order, is_equal}
 use Rattle.scalar.specs.declared.Scalar.{Scalar}
-use Rattle.scalar.specs.declared.Bound.{Bound}
-use Rattle.scalar.specs.declared.Bound.TheVariants.{Absent, Present}
+use Rattle.std.specs.Prelude.{Option, Some, None}
 use Rattle.scalar_bytes.specs.Encoding.{lawful_scalar, lawful_bound}
 use Rattle.estimate.specs.Bytes.{LawfulFigure}
 use Rattle.records.specs.declared.columns.ColumnProfile.{ColumnProfile}
@@ -19,10 +18,9 @@ use Rattle.units.proofs.ScalarLaws.{holds}
 use Rattle.units.proofs.SizeLaws.{up_to_le, unit_up_to, zero_up_to, one_up_to, max_up_to, mul_up_to}
 use Rattle.units.proofs.FigureLaws.{figure_up_to}
 use Rattle.units.proofs.UnitOperations.{le_own}
+use Rattle.interval.specs.Intervals.{interval_of, zip_bounds}
 use Rattle.interval.specs.Fraction.{scalar_interval_fraction}
-use Rattle.interval.specs.Intersection.{zip_bounds, overlapping, disjoint, overlap_lower, overlap_upper, at_least_point, shared_distinct, overlap_distinct, bounded_intersection, zipped_intersection, estimated_distinct_intersection}
-use Rattle.interval.specs.declared.fraction.IntervalFraction.{IntervalFraction}
-use Rattle.interval.specs.declared.fraction.IntervalFraction.TheVariants.{NoFraction, Fraction}
+use Rattle.interval.specs.Intersection.{overlapping, disjoint, overlap, at_least_point, shared_distinct, overlap_distinct, bounded_intersection, zipped_intersection, estimated_distinct_intersection}
 use Rattle.interval.specs.declared.intersection.DistinctIntersection.{DistinctIntersection}
 use Rattle.fraction_range.specs.Distinct.{InUnit}
 use Rattle.fraction_range.specs.Distinct.{LawfulBounds, DistinctWithin}
@@ -100,39 +98,38 @@ module _ (left right : Float) (fl : LawfulFigure left) (fr : LawfulFigure right)
   part_up_to : (x p : Float) → LawfulFigure x → Unit01 p → UpTo 64 (mul binary64 x p)
   part_up_to x p f h = mul_up_to 64 0 x p (lit≤ tt) (figure_up_to x f) (unit_up_to p h)
 
-  pub shared_within : (x y : IntervalFraction) (point : Bool) → InUnit x → InUnit y → DistinctWithin left right (shared_distinct x y point left right)
+  pub shared_within : (x y : Option Float) (point : Bool) → InUnit x → InUnit y → DistinctWithin left right (shared_distinct x y point left right)
   unfolding shared_distinct
-  shared_within NoFraction y point h k = least_within
-  shared_within (Fraction x) NoFraction point h k = least_within
-  shared_within (Fraction x) (Fraction y) point h k =
+  shared_within None y point h k = least_within
+  shared_within (Some x) None point h k = least_within
+  shared_within (Some x) (Some y) point h k =
       let parts = f64_min (mul binary64 left x) (mul binary64 right y) in
       let u = min_up_to (mul binary64 left x) (mul binary64 right y) (part_up_to left x fl h) (part_up_to right y fr k) in
       point_within point (f64_min parts least) (min_up_to parts least u least_up_to) (min_right parts least u.low least_up_to.low)
 
-  overlap_within : (ll lu rl ru : Scalar) → lawful_scalar ll ≡ true → lawful_scalar lu ≡ true → lawful_scalar rl ≡ true → lawful_scalar ru ≡ true → DistinctWithin left right (overlap_distinct ll lu rl ru left right)
+  overlap_within : (ll lu rl ru : Scalar) → lawful_scalar ll ≡ true → lawful_scalar lu ≡ true → lawful_scalar rl ≡ true → lawful_scalar ru ≡ true → DistinctWithin left right (overlap_distinct (interval_of ll lu) (interval_of rl ru) left right)
   unfolding overlap_distinct
   overlap_within ll lu rl ru hll hlu hrl hru =
-      let lower = overlap_lower ll rl in
-      let upper = overlap_upper lu ru in
-      shared_within (scalar_interval_fraction ll lu lower upper) (scalar_interval_fraction rl ru lower upper) (is_equal (scalar_order lower upper))
+      let both = overlap (interval_of ll lu) (interval_of rl ru) in
+      shared_within (scalar_interval_fraction (interval_of ll lu) both) (scalar_interval_fraction (interval_of rl ru) both) (is_equal (scalar_order both.lower both.upper))
       (left_unit ll lu rl ru hll hlu hrl hru) (right_unit ll lu rl ru hll hlu hrl hru)
 
-  bounded_within : (ll lu rl ru : Scalar) → lawful_scalar ll ≡ true → lawful_scalar lu ≡ true → lawful_scalar rl ≡ true → lawful_scalar ru ≡ true → DistinctWithin left right (bounded_intersection ll lu rl ru left right).distinct
+  bounded_within : (ll lu rl ru : Scalar) → lawful_scalar ll ≡ true → lawful_scalar lu ≡ true → lawful_scalar rl ≡ true → lawful_scalar ru ≡ true → DistinctWithin left right (bounded_intersection (interval_of ll lu) (interval_of rl ru) left right).distinct
   unfolding bounded_intersection
-  bounded_within ll lu rl ru hll hlu hrl hru = go (disjoint ll lu rl ru) (overlap_distinct ll lu rl ru left right) (overlap_within ll lu rl ru hll hlu hrl hru)
+  bounded_within ll lu rl ru hll hlu hrl hru = go (disjoint (interval_of ll lu) (interval_of rl ru)) (overlap_distinct (interval_of ll lu) (interval_of rl ru) left right) (overlap_within ll lu rl ru hll hlu hrl hru)
     where
       go : (b : Bool) (x : Float) → DistinctWithin left right x → DistinctWithin left right (cond b (record { distinct = f64_zero; domains_disjoint = true }) (overlapping x)).distinct
       go true x h = zero_within
       go false x h = h
 
-  zipped_within : (ll lu rl ru : Bound) → lawful_bound ll ≡ true → lawful_bound lu ≡ true → lawful_bound rl ≡ true → lawful_bound ru ≡ true
+  zipped_within : (ll lu rl ru : Option Scalar) → lawful_bound ll ≡ true → lawful_bound lu ≡ true → lawful_bound rl ≡ true → lawful_bound ru ≡ true
       → DistinctWithin left right (zipped_intersection (zip_bounds ll lu) (zip_bounds rl ru) left right).distinct
   unfolding zipped_intersection lawful_bound
-  zipped_within Absent lu rl ru hll hlu hrl hru = least_within
-  zipped_within (Present ll) Absent rl ru hll hlu hrl hru = least_within
-  zipped_within (Present ll) (Present lu) Absent ru hll hlu hrl hru = least_within
-  zipped_within (Present ll) (Present lu) (Present rl) Absent hll hlu hrl hru = least_within
-  zipped_within (Present ll) (Present lu) (Present rl) (Present ru) hll hlu hrl hru = bounded_within ll lu rl ru hll hlu hrl hru
+  zipped_within None lu rl ru hll hlu hrl hru = least_within
+  zipped_within (Some ll) None rl ru hll hlu hrl hru = least_within
+  zipped_within (Some ll) (Some lu) None ru hll hlu hrl hru = least_within
+  zipped_within (Some ll) (Some lu) (Some rl) None hll hlu hrl hru = least_within
+  zipped_within (Some ll) (Some lu) (Some rl) (Some ru) hll hlu hrl hru = bounded_within ll lu rl ru hll hlu hrl hru
 
 pub intersection_within : (left right : ColumnProfile) (left_distinct right_distinct : Float) → LawfulBounds left → LawfulBounds right → LawfulFigure left_distinct → LawfulFigure right_distinct
     → DistinctWithin left_distinct right_distinct (estimated_distinct_intersection left right left_distinct right_distinct).distinct

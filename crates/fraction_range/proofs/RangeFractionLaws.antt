@@ -1,5 +1,4 @@
 -- The two fractions that `estimated_distinct_intersection` takes of ranges whose ends a sheet may hold lie from 0 to 1 and are not -0, of whatever types the ends are. Assumes nothing.
-use Prim.{Unit}
 use Prim.Native.Nat.{ℕ}
 use mathlib.Core.Path.{◌≡◌, refl, sym, subst}
 use mathlib.Core.Logic.{◌≢◌}
@@ -9,22 +8,21 @@ use lib.Dec.{lit≤}
 use lib.IntN.{ℤ, pos}
 use lib.Ieee.{Float, binary64, fits}
 use lib.Ieee.Fits.{and_l, and_r}
+use Rattle.std.specs.Prelude.{Option, Some, None, option_map, option_and_then}
 use Rattle.float.specs.Integers.{bit}
 use Rattle.scalar.specs.Types.{as_boolean, as_int32, as_int64, as_float64, as_date32}
 use Rattle.scalar.specs.Order.{scalar_order, is_less, is_greater}
 use Rattle.scalar.specs.declared.Scalar.{Scalar}
 use Rattle.scalar.specs.declared.Scalar.TheVariants.{Null, Boolean, Int32, Int64, Float64, Decimal128, Date32, IntervalMonthDayNano, IntervalDayTime}
-use Rattle.scalar.specs.declared.types.FloatOption.{FloatOption}
-use Rattle.scalar.specs.declared.types.FloatOption.TheVariants.{NoFloat, FloatNumber}
 use Rattle.scalar.proofs.TypeLaws.{scalar_tag, boolean_or_none, int32_or_none, int64_or_none, date32_or_none, float64_or_none, decimal128_or_none}
 use Rattle.scalar_bytes.specs.Reading.{float64_lawful}
 use Rattle.scalar_bytes.specs.Encoding.{in32, in64, lawful_scalar}
 use Rattle.units.specs.Sizes.{Tame}
 use Rattle.units.proofs.ScalarLaws.{holds, narrow, wide}
-use Rattle.interval.specs.Fraction.{float_ends, ends_fraction, scalar_interval_fraction}
-use Rattle.interval.specs.Intersection.{overlap_lower, overlap_upper}
-use Rattle.interval.specs.declared.fraction.IntervalFraction.{IntervalFraction}
-use Rattle.interval.specs.declared.fraction.IntervalFraction.TheVariants.{NoFraction}
+use Rattle.interval.specs.Intervals.{interval_of}
+use Rattle.interval.specs.Fraction.{typed_ends, ends_fraction, scalar_interval_fraction}
+use Rattle.interval.specs.declared.fraction.ScalarEnds.TheVariants.{Floats}
+use Rattle.interval.specs.Intersection.{overlap_lower, overlap_upper, overlap}
 use Rattle.interval.proofs.FractionCases.{null_fraction, month_day_nano_fraction, day_time_fraction}
 use Rattle.fraction_range.specs.Distinct.{InUnit}
 use Rattle.fraction_range.proofs.WholeFractionLaws.{In64, Each, Decimal64, integers_unit, left_decimals, right_decimals}
@@ -59,13 +57,9 @@ decimal_64 : (p s : ℕ) (x : Scalar) → lawful_scalar x ≡ true → Decimal64
 unfolding lawful_scalar
 decimal_64 p s = decimal128_or_none p s (λ x o. lawful_scalar x ≡ true → Each In64 o) (λ x h. tt) (λ x. held_64 x p s)
 
-abbrev EachTame : FloatOption → Type 0
-EachTame NoFloat = Unit {0}
-EachTame (FloatNumber x) = Tame x
-
-float_tame : (x : Scalar) → lawful_scalar x ≡ true → EachTame (as_float64 x)
+float_tame : (x : Scalar) → lawful_scalar x ≡ true → Each Tame (as_float64 x)
 unfolding lawful_scalar
-float_tame = float64_or_none (λ x o. lawful_scalar x ≡ true → EachTame o) (λ x h. tt) tame
+float_tame = float64_or_none (λ x o. lawful_scalar x ≡ true → Each Tame o) (λ x h. tt) tame
   where
     tame : (x : Float) → (fits binary64 x && float64_lawful x) ≡ true → Tame x
     tame x h = let t = holds (fits binary64 x && float64_lawful x) h in record { held = and_l (fits binary64 x) (float64_lawful x) t; lawful = and_r (fits binary64 x) (float64_lawful x) t }
@@ -85,21 +79,21 @@ upper_lawful x y h k = one_of (is_greater (scalar_order x y)) y x k h
 
 -- ---- a range of other types than decimals, whatever the overlap is
 
-floats_unit : (l : Float) (u ol ou : FloatOption) → Tame l → EachTame u → EachTame ol → EachTame ou → InUnit (ends_fraction (float_ends l u ol ou))
+floats_unit : (l : Float) (u ol ou : Option Float) → Tame l → Each Tame u → Each Tame ol → Each Tame ou → InUnit (option_and_then ends_fraction (option_map Floats (typed_ends l u ol ou)))
 unfolding ends_fraction
-floats_unit l NoFloat ol ou hl hu hol hou = tt
-floats_unit l (FloatNumber u) NoFloat ou hl hu hol hou = tt
-floats_unit l (FloatNumber u) (FloatNumber ol) NoFloat hl hu hol hou = tt
-floats_unit l (FloatNumber u) (FloatNumber ol) (FloatNumber ou) hl hu hol hou = continuous_unit l u ol ou hl hu hol hou
+floats_unit l None ol ou hl hu hol hou = tt
+floats_unit l (Some u) None ou hl hu hol hou = tt
+floats_unit l (Some u) (Some ol) None hl hu hol hou = tt
+floats_unit l (Some u) (Some ol) (Some ou) hl hu hol hou = continuous_unit l u ol ou hl hu hol hou
 
-no_fraction : (x : IntervalFraction) → x ≡ NoFraction → InUnit x
+no_fraction : (x : Option Float) → x ≡ None → InUnit x
 no_fraction x e = subst InUnit (sym e) tt
 
 -- all but decimals
 abbrev NoDecimal : Scalar → Type 0
 NoDecimal x = scalar_tag x ≢ 5
 
-other_unit : (l u ol ou : Scalar) → lawful_scalar l ≡ true → lawful_scalar u ≡ true → lawful_scalar ol ≡ true → lawful_scalar ou ≡ true → NoDecimal l → InUnit (scalar_interval_fraction l u ol ou)
+other_unit : (l u ol ou : Scalar) → lawful_scalar l ≡ true → lawful_scalar u ≡ true → lawful_scalar ol ≡ true → lawful_scalar ou ≡ true → NoDecimal l → InUnit (scalar_interval_fraction (interval_of l u) (interval_of ol ou))
 unfolding scalar_interval_fraction
 other_unit Null u ol ou hl hu hol hou n = no_fraction _ (null_fraction u ol ou)
 other_unit (Boolean b) u ol ou hl hu hol hou n = integers_unit (pos (bit b)) (as_boolean u) (as_boolean ol) (as_boolean ou) (boolean_64 (Boolean b) hl) (boolean_64 u hu) (boolean_64 ol hol) (boolean_64 ou hou)
@@ -126,20 +120,20 @@ module _ (Goal : Scalar → Type 0) (decimal : (a : ℤ) (p s : ℕ) → Goal (D
   by_decimal (IntervalDayTime d t) = other (IntervalDayTime d t) (λ e. let z : ◌≡◌ {A = ℕ} 9 5 = e in omega arith)
 
 module _ (ll lu rl ru : Scalar) (hll : lawful_scalar ll ≡ true) (hlu : lawful_scalar lu ≡ true) (hrl : lawful_scalar rl ≡ true) (hru : lawful_scalar ru ≡ true) where
-  pub left_unit : InUnit (scalar_interval_fraction ll lu (overlap_lower ll rl) (overlap_upper lu ru))
+  pub left_unit : InUnit (scalar_interval_fraction (interval_of ll lu) (overlap (interval_of ll lu) (interval_of rl ru)))
   unfolding scalar_interval_fraction
   left_unit =
       by_decimal
-      (λ l. lawful_scalar l ≡ true → InUnit (scalar_interval_fraction l lu (overlap_lower l rl) (overlap_upper lu ru)))
+      (λ l. lawful_scalar l ≡ true → InUnit (scalar_interval_fraction (interval_of l lu) (overlap (interval_of l lu) (interval_of rl ru))))
       (λ a p s h. left_decimals p s a lu rl ru (held_64 a p s h) (decimal_64 p s lu hlu) (decimal_64 p s rl hrl) (decimal_64 p s ru hru))
       (λ l n h. other_unit l lu (overlap_lower l rl) (overlap_upper lu ru) h hlu (lower_lawful l rl h hrl) (upper_lawful lu ru hlu hru) n)
       ll hll
 
-  pub right_unit : InUnit (scalar_interval_fraction rl ru (overlap_lower ll rl) (overlap_upper lu ru))
+  pub right_unit : InUnit (scalar_interval_fraction (interval_of rl ru) (overlap (interval_of ll lu) (interval_of rl ru)))
   unfolding scalar_interval_fraction
   right_unit =
       by_decimal
-      (λ l. lawful_scalar l ≡ true → InUnit (scalar_interval_fraction l ru (overlap_lower ll l) (overlap_upper lu ru)))
+      (λ l. lawful_scalar l ≡ true → InUnit (scalar_interval_fraction (interval_of l ru) (overlap (interval_of ll lu) (interval_of l ru))))
       (λ a p s h. right_decimals p s a ll lu ru (held_64 a p s h) (decimal_64 p s ll hll) (decimal_64 p s lu hlu) (decimal_64 p s ru hru))
       (λ l n h. other_unit l ru (overlap_lower ll l) (overlap_upper lu ru) h hru (lower_lawful ll l hll h) (upper_lawful lu ru hlu hru) n)
       rl hrl

@@ -1,6 +1,5 @@
 -- A fraction of whole numbers within 64 bits lies from 0 to 1 and is not -0: for booleans, whole numbers and days whatever the overlap is, and for decimals where the overlap is the one that `estimated_distinct_intersection` takes.
 -- There the overlap is no wider than either range, so where a range is reversed the overlap is too, and the quotient is above 0. Nothing is said here of Float64. Assumes nothing.
-use Prim.{Unit}
 use Prim.Native.Nat.{ℕ, zero, suc, ◌+◌, ◌-◌, ◌^◌, ◌≤◌, ◌<◌}
 use mathlib.Core.Path.{◌≡◌, refl, sym, ap, ◌∙◌, subst}
 use mathlib.Core.Bool.{Bool, true, false, cond, not, true≢false, false≢true}
@@ -11,23 +10,23 @@ use lib.Dec.{T, ltb, ltb→lt, nltb→le, lit≤}
 use lib.IntN.{ℤ, pos, negsuc, nat_abs, sub_ℕ, ◌+ℤ◌, ◌-ℤ◌, +ℤ_idr}
 use lib.Signed.{mag, lt_z, non_neg}
 use lib.Ieee.{Float, nan, inf, fin, Format, binary64, neg, of_int, div, lt}
+use Rattle.std.specs.Prelude.{Option, Some, None, IfSome, option_map, option_and_then}
+use Rattle.std.specs.Ordering.{is_lt, is_gt}
+use Rattle.std.specs.declared.cmp.Ordering.TheVariants.{Less, Equal, Greater}
 use Rattle.float.specs.Integers.{offset}
 use Rattle.float.specs.Order.{f64_zero, f64_one, clamp_unit, nonneg, Unit01}
 use Rattle.float.proofs.IntegerLaws.{difference, of_int_neg}
 use Rattle.float.proofs.UnitLaws.{one_unit}
 use Rattle.scalar.specs.Types.{as_decimal128}
-use Rattle.scalar.specs.Order.{integer_order, integer_option_order, scalar_order, is_less, is_greater}
+use Rattle.scalar.specs.Order.{integer_order, scalar_order, is_less, is_greater}
 use Rattle.scalar.specs.declared.Scalar.{Scalar}
 use Rattle.scalar.specs.declared.Scalar.TheVariants.{Decimal128}
-use Rattle.scalar.specs.declared.order.ScalarOrdering.TheVariants.{Less, Equal, Greater}
-use Rattle.scalar.specs.declared.types.IntegerOption.{IntegerOption}
-use Rattle.scalar.specs.declared.types.IntegerOption.TheVariants.{NoInteger, Integer}
 use Rattle.scalar.proofs.TypeLaws.{decimal128_or_none}
 use Rattle.scalar.proofs.OrderCases.{decimal_order}
-use Rattle.interval.specs.Fraction.{is_zero, discrete, decimal, integer_ends, decimal_ends, ends_fraction}
+use Rattle.interval.specs.Intervals.{interval_of}
+use Rattle.interval.specs.Fraction.{ends_of, is_zero, discrete, decimal, typed_ends, ends_fraction}
+use Rattle.interval.specs.declared.fraction.ScalarEnds.TheVariants.{Integers, Decimals}
 use Rattle.interval.specs.Intersection.{overlap_lower, overlap_upper}
-use Rattle.interval.specs.declared.fraction.IntervalFraction.TheVariants.{NoFraction, Fraction}
-use Rattle.interval.specs.declared.fraction.ScalarEnds.TheVariants.{UnlikeTypes}
 use Rattle.units.proofs.SpreadLaws.{div_spread, spread_clamped}
 use Rattle.units.proofs.ScalarLaws.{count_sized, integer_spread}
 use Rattle.fraction_range.specs.Distinct.{InUnit}
@@ -62,7 +61,7 @@ both_negative m n h k =
 
 -- ---- the two ways to a fraction, by the width and the overlap as whole numbers
 
-if_there : (b : Bool) (x : Float) → Unit01 x → InUnit (cond b (Fraction x) NoFraction)
+if_there : (b : Bool) (x : Float) → Unit01 x → InUnit (cond b (Some x) None)
 if_there true x u = u
 if_there false x u = tt
 
@@ -77,12 +76,12 @@ neg_not_above (inf s) p = absurd p
 neg_not_above (fin true m e) p = absurd p
 neg_not_above (fin false m e) p = refl
 
-by_count : (w o : ℤ) → nat_abs w ≤ 2 ^ 64 → nat_abs o ≤ 2 ^ 64 → InUnit (cond (lt f64_zero (of_int binary64 w)) (Fraction (clamp_unit (div binary64 (of_int binary64 o) (of_int binary64 w)))) NoFraction)
+by_count : (w o : ℤ) → nat_abs w ≤ 2 ^ 64 → nat_abs o ≤ 2 ^ 64 → InUnit (cond (lt f64_zero (of_int binary64 w)) (Some (clamp_unit (div binary64 (of_int binary64 o) (of_int binary64 w)))) None)
 by_count (pos zero) o h k = rw zero_not_above tt
 by_count (pos (suc n)) o h k = if_there (lt f64_zero (of_int binary64 (pos (suc n)))) _ (above_zero o n k h)
 by_count (negsuc n) o h k = rw (ap (lt f64_zero) (of_int_neg binary64 n) ∙ neg_not_above (of_int binary64 (pos (suc n))) (count_sized 64 n (lit≤ tt) h).1.low) tt
 
-by_width : (w o : ℤ) → nat_abs w ≤ 2 ^ 64 → nat_abs o ≤ 2 ^ 64 → (T (non_neg o) → T (non_neg w)) → InUnit (cond (is_zero w) (Fraction f64_one) (Fraction (clamp_unit (div binary64 (of_int binary64 o) (of_int binary64 w)))))
+by_width : (w o : ℤ) → nat_abs w ≤ 2 ^ 64 → nat_abs o ≤ 2 ^ 64 → (T (non_neg o) → T (non_neg w)) → InUnit (cond (is_zero w) (Some f64_one) (Some (clamp_unit (div binary64 (of_int binary64 o) (of_int binary64 w)))))
 by_width (pos zero) o h k l = one_unit
 by_width (pos (suc n)) o h k l = above_zero o n k h
 by_width (negsuc n) (pos m) h k l = absurd (l tt)
@@ -124,7 +123,7 @@ sign_sub a b h = go (ltb a b) (ltb→lt a b)
 count_size_law : (a b : ℤ) → In64 a → In64 b → nat_abs (a -ℤ b +ℤ pos 1) ≤ 2 ^ 64
 count_size_law a b h k = subst (λ (z : ℤ). nat_abs z ≤ 2 ^ 64) (sym (difference a b 1 h k)) (sub_size (offset a + 1) (offset b) (omega (arith, offset_below a h)) (omega (arith, offset_below b k)))
 
-discrete_unit : (l u ol ou : ℤ) → In64 l → In64 u → In64 ol → In64 ou → InUnit (discrete l u ol ou)
+discrete_unit : (l u ol ou : ℤ) → In64 l → In64 u → In64 ol → In64 ou → InUnit (discrete (ends_of (interval_of l u) (interval_of ol ou)))
 unfolding discrete
 discrete_unit l u ol ou hl hu hol hou = by_count (u -ℤ l +ℤ pos 1) (ou -ℤ ol +ℤ pos 1) (count_size_law u l hu hl) (count_size_law ou ol hou hol)
 
@@ -134,7 +133,7 @@ minus_is a b h k = sym (+ℤ_idr (a -ℤ b)) ∙ difference a b 0 h k
 width_size : (a b : ℤ) → In64 a → In64 b → nat_abs (a -ℤ b) ≤ 2 ^ 64
 width_size a b h k = subst (λ (z : ℤ). nat_abs z ≤ 2 ^ 64) (sym (minus_is a b h k)) (sub_size (offset a + 0) (offset b) (omega (arith, offset_below a h)) (omega (arith, offset_below b k)))
 
-decimal_unit : (l u ol ou : ℤ) → In64 l → In64 u → In64 ol → In64 ou → offset l ≤ offset ol → offset ou ≤ offset u → InUnit (decimal l u ol ou)
+decimal_unit : (l u ol ou : ℤ) → In64 l → In64 u → In64 ol → In64 ou → offset l ≤ offset ol → offset ou ≤ offset u → InUnit (decimal (ends_of (interval_of l u) (interval_of ol ou)))
 unfolding decimal
 decimal_unit l u ol ou hl hu hol hou lower upper = by_width (u -ℤ l) (ou -ℤ ol) (width_size u l hu hl) (width_size ou ol hou hol) signs
   where
@@ -160,35 +159,31 @@ not_less_offset (negsuc a) (negsuc b) h k e = omega (arith, ltb-false b a e)
 
 module _ (a b : ℤ) (h : In64 a) (k : In64 b) where
   is_less_law : is_less (integer_order a b) ≡ true → offset a ≤ offset b
-  unfolding integer_order
   is_less_law = go (lt_z a b) (lt_z b a) (less_offset a b h k)
     where
-      go : (t u : Bool) → (t ≡ true → offset a ≤ offset b) → is_less (cond t Less (cond u Greater Equal)) ≡ true → offset a ≤ offset b
+      go : (t u : Bool) → (t ≡ true → offset a ≤ offset b) → is_lt (cond t Less (cond u Greater Equal)) ≡ true → offset a ≤ offset b
       go true u y e = y refl
       go false true y e = absurd (false≢true e)
       go false false y e = absurd (false≢true e)
 
   is_not_less : is_less (integer_order a b) ≡ false → offset b ≤ offset a
-  unfolding integer_order
   is_not_less = go (lt_z a b) (lt_z b a) (not_less_offset a b h k)
     where
-      go : (t u : Bool) → (t ≡ false → offset b ≤ offset a) → is_less (cond t Less (cond u Greater Equal)) ≡ false → offset b ≤ offset a
+      go : (t u : Bool) → (t ≡ false → offset b ≤ offset a) → is_lt (cond t Less (cond u Greater Equal)) ≡ false → offset b ≤ offset a
       go true u z e = absurd (true≢false e)
       go false u z e = z refl
 
   is_greater_law : is_greater (integer_order a b) ≡ true → offset b ≤ offset a
-  unfolding integer_order
   is_greater_law = go (lt_z a b) (lt_z b a) (not_less_offset a b h k)
     where
-      go : (t u : Bool) → (t ≡ false → offset b ≤ offset a) → is_greater (cond t Less (cond u Greater Equal)) ≡ true → offset b ≤ offset a
+      go : (t u : Bool) → (t ≡ false → offset b ≤ offset a) → is_gt (cond t Less (cond u Greater Equal)) ≡ true → offset b ≤ offset a
       go true u z e = absurd (false≢true e)
       go false u z e = z refl
 
   is_not_greater : is_greater (integer_order a b) ≡ false → offset a ≤ offset b
-  unfolding integer_order
   is_not_greater = go (lt_z a b) (lt_z b a) (less_offset a b h k) (not_less_offset b a k h)
     where
-      go : (t u : Bool) → (t ≡ true → offset a ≤ offset b) → (u ≡ false → offset a ≤ offset b) → is_greater (cond t Less (cond u Greater Equal)) ≡ false → offset a ≤ offset b
+      go : (t u : Bool) → (t ≡ true → offset a ≤ offset b) → (u ≡ false → offset a ≤ offset b) → is_gt (cond t Less (cond u Greater Equal)) ≡ false → offset a ≤ offset b
       go true u y z e = y refl
       go false true y z e = absurd (true≢false e)
       go false false y z e = z refl
@@ -196,16 +191,15 @@ module _ (a b : ℤ) (h : In64 a) (k : In64 b) where
 -- ---- the numbers of four ends, where all are of one type
 
 -- of the number, if there is one
-abbrev pub Each : (ℤ → Type 0) → IntegerOption → Type 0
-Each P NoInteger = Unit {0}
-Each P (Integer x) = P x
+abbrev pub Each : {T : Type 0} → (T → Type 0) → Option T → Type 0
+Each P o = IfSome o P
 
-pub integers_unit : (l : ℤ) (u ol ou : IntegerOption) → In64 l → Each In64 u → Each In64 ol → Each In64 ou → InUnit (ends_fraction (integer_ends l u ol ou))
+pub integers_unit : (l : ℤ) (u ol ou : Option ℤ) → In64 l → Each In64 u → Each In64 ol → Each In64 ou → InUnit (option_and_then ends_fraction (option_map Integers (typed_ends l u ol ou)))
 unfolding ends_fraction
-integers_unit l NoInteger ol ou hl hu hol hou = tt
-integers_unit l (Integer u) NoInteger ou hl hu hol hou = tt
-integers_unit l (Integer u) (Integer ol) NoInteger hl hu hol hou = tt
-integers_unit l (Integer u) (Integer ol) (Integer ou) hl hu hol hou = discrete_unit l u ol ou hl hu hol hou
+integers_unit l None ol ou hl hu hol hou = tt
+integers_unit l (Some u) None ou hl hu hol hou = tt
+integers_unit l (Some u) (Some ol) None hl hu hol hou = tt
+integers_unit l (Some u) (Some ol) (Some ou) hl hu hol hou = discrete_unit l u ol ou hl hu hol hou
 
 abbrev From : ℤ → ℤ → Type 0
 From a x = In64 x × (offset a ≤ offset x)
@@ -213,15 +207,11 @@ From a x = In64 x × (offset a ≤ offset x)
 abbrev UpTo : ℤ → ℤ → Type 0
 UpTo a x = In64 x × (offset x ≤ offset a)
 
-unlike_unit : InUnit (ends_fraction UnlikeTypes)
+decimals_unit : (l u : ℤ) (ol ou : Option ℤ) → In64 l → In64 u → Each (From l) ol → Each (UpTo u) ou → InUnit (option_and_then ends_fraction (option_map Decimals (typed_ends l (Some u) ol ou)))
 unfolding ends_fraction
-unlike_unit = tt
-
-decimals_unit : (l u : ℤ) (ol ou : IntegerOption) → In64 l → In64 u → Each (From l) ol → Each (UpTo u) ou → InUnit (ends_fraction (decimal_ends l (Integer u) ol ou))
-unfolding ends_fraction
-decimals_unit l u NoInteger ou hl hu hol hou = tt
-decimals_unit l u (Integer ol) NoInteger hl hu hol hou = tt
-decimals_unit l u (Integer ol) (Integer ou) hl hu hol hou = decimal_unit l u ol ou hl hu hol.0 hou.0 hol.1 hou.1
+decimals_unit l u None ou hl hu hol hou = tt
+decimals_unit l u (Some ol) None hl hu hol hou = tt
+decimals_unit l u (Some ol) (Some ou) hl hu hol hou = decimal_unit l u ol ou hl hu hol.0 hou.0 hol.1 hou.1
 
 -- ---- the overlap of decimals lies in either range
 
@@ -255,7 +245,7 @@ module _ (p s : ℕ) where
     unfolding overlap_lower scalar_order
     lower_left =
         decimal128_or_none p s
-        (λ r o. Decimal64 r → Each (From a) (as_decimal128 p s (cond (is_less (integer_option_order a o)) r this)))
+        (λ r o. Decimal64 r → Each (From a) (as_decimal128 p s (cond (is_less (option_and_then (integer_order a) o)) r this)))
         (λ r k. this_from)
         (λ b k. let i = held b k in tested (From a) (is_less (integer_order a b)) (Decimal128 b p s) this (λ e. own (From a) b (i, is_less_law a b h i e)) (λ e. this_from))
 
@@ -263,7 +253,7 @@ module _ (p s : ℕ) where
     unfolding overlap_upper scalar_order
     upper_left =
         decimal128_or_none p s
-        (λ r o. Decimal64 r → Each (UpTo a) (as_decimal128 p s (cond (is_greater (integer_option_order a o)) r this)))
+        (λ r o. Decimal64 r → Each (UpTo a) (as_decimal128 p s (cond (is_greater (option_and_then (integer_order a) o)) r this)))
         (λ r k. this_up_to)
         (λ b k. let i = held b k in tested (UpTo a) (is_greater (integer_order a b)) (Decimal128 b p s) this (λ e. own (UpTo a) b (i, is_greater_law a b h i e)) (λ e. this_up_to))
 
@@ -287,19 +277,19 @@ module _ (p s : ℕ) where
 
   -- a range from a decimal on, on the left and on the right
   pub left_decimals : (a : ℤ) (lu rl ru : Scalar) → In64 a → Decimal64 lu → Decimal64 rl → Decimal64 ru
-      → InUnit (ends_fraction (decimal_ends a (as_decimal128 p s lu) (as_decimal128 p s (overlap_lower (Decimal128 a p s) rl)) (as_decimal128 p s (overlap_upper lu ru))))
+      → InUnit (option_and_then ends_fraction (option_map Decimals (typed_ends a (as_decimal128 p s lu) (as_decimal128 p s (overlap_lower (Decimal128 a p s) rl)) (as_decimal128 p s (overlap_upper lu ru)))))
   left_decimals a lu rl ru h hlu hrl hru =
       decimal128_or_none p s
-      (λ u o. Decimal64 u → InUnit (ends_fraction (decimal_ends a o (as_decimal128 p s (overlap_lower (Decimal128 a p s) rl)) (as_decimal128 p s (overlap_upper u ru)))))
-      (λ u k. unlike_unit)
+      (λ u o. Decimal64 u → InUnit (option_and_then ends_fraction (option_map Decimals (typed_ends a o (as_decimal128 p s (overlap_lower (Decimal128 a p s) rl)) (as_decimal128 p s (overlap_upper u ru))))))
+      (λ u k. tt)
       (λ b k. let i = held b k in decimals_unit a b (as_decimal128 p s (overlap_lower (Decimal128 a p s) rl)) (as_decimal128 p s (overlap_upper (Decimal128 b p s) ru)) h i (lower_left a h rl hrl) (upper_left b i ru hru))
       lu hlu
 
   pub right_decimals : (a : ℤ) (ll lu ru : Scalar) → In64 a → Decimal64 ll → Decimal64 lu → Decimal64 ru
-      → InUnit (ends_fraction (decimal_ends a (as_decimal128 p s ru) (as_decimal128 p s (overlap_lower ll (Decimal128 a p s))) (as_decimal128 p s (overlap_upper lu ru))))
+      → InUnit (option_and_then ends_fraction (option_map Decimals (typed_ends a (as_decimal128 p s ru) (as_decimal128 p s (overlap_lower ll (Decimal128 a p s))) (as_decimal128 p s (overlap_upper lu ru)))))
   right_decimals a ll lu ru h hll hlu hru =
       decimal128_or_none p s
-      (λ u o. Decimal64 u → InUnit (ends_fraction (decimal_ends a o (as_decimal128 p s (overlap_lower ll (Decimal128 a p s))) (as_decimal128 p s (overlap_upper lu u)))))
-      (λ u k. unlike_unit)
+      (λ u o. Decimal64 u → InUnit (option_and_then ends_fraction (option_map Decimals (typed_ends a o (as_decimal128 p s (overlap_lower ll (Decimal128 a p s))) (as_decimal128 p s (overlap_upper lu u))))))
+      (λ u k. tt)
       (λ b k. let i = held b k in decimals_unit a b (as_decimal128 p s (overlap_lower ll (Decimal128 a p s))) (as_decimal128 p s (overlap_upper lu (Decimal128 b p s))) h i (lower_right a h ll hll) (upper_right b i lu hlu))
       ru hru

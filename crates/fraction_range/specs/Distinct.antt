@@ -1,18 +1,14 @@
 -- Where a fraction lies, what is asked of a column's bounds, and what is known of the distinct values that two columns share. Definitions only.
-use Prim.{Unit}
-use Rattle.std.specs.Prelude.{◌≡◌, true, false, T, pos, Float}
+use Rattle.std.specs.Prelude.{◌≡◌, true, false, T, pos, Float, Option, IfSome}
 use Rattle.std.specs.Float.{fin, binary64}
 use Rattle.std.specs.Float.Ieee.{fits, le}
 use Rattle.float.specs.Order.{f64_one, f64_max, f64_min, nonneg, Unit01}
 use Rattle.scalar_bytes.specs.Encoding.{lawful_bound}
 use Rattle.records.specs.declared.columns.ColumnProfile.{ColumnProfile}
-use Rattle.interval.specs.declared.fraction.IntervalFraction.{IntervalFraction}
-use Rattle.interval.specs.declared.fraction.IntervalFraction.TheVariants.{NoFraction, Fraction}
 
 -- from 0 to 1 and not -0, where there is a fraction
-abbrev pub InUnit : IntervalFraction → Type 0
-InUnit NoFraction = Unit {0}
-InUnit (Fraction x) = Unit01 x
+abbrev pub InUnit : Option Float → Type 0
+InUnit x = IfSome x Unit01
 
 -- a sheet may hold both
 pub record LawfulBounds (x : ColumnProfile) : Type 0 where

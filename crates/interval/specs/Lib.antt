@@ -1,3 +1,4 @@
+pub mod Intervals
 pub mod Fraction
 pub mod Intersection
 pub mod Cases

@@ -1,309 +1,184 @@
 // scalar_interval_fraction of the source's analysis.rs.
 ghost use Rattle.std.specs.Prelude.{◌≡◌};
-ghost use Rattle.std.specs.Float.Ieee.Scale.{finite};
-ghost use Rattle.interval.specs.Fraction.{discrete, continuous, decimal, integer_ends, float_ends, decimal_ends, widthless_ends, is_month_day_nano, is_day_time, scalar_ends, ends_fraction, scalar_interval_fraction};
+ghost use Rattle.interval.specs.Fraction.{discrete, continuous, decimal, typed_ends, widthless_ends, scalar_ends, ends_fraction, scalar_interval_fraction};
 
+use crate::Interval;
 use float::integers::nearest_difference;
 use float::order::clamp_unit;
-use rules::{both, either};
 use scalar::types::{
-    DayTimeOption, FloatOption, IntegerOption, MonthDayNanoOption, as_boolean, as_date32,
-    as_day_time, as_decimal128, as_float64, as_int32, as_int64, as_month_day_nano, boolean_integer,
+    as_boolean, as_date32, as_day_time, as_decimal128, as_float64, as_int32, as_int64,
+    as_month_day_nano,
 };
 use scalar::{Scalar, is_null};
-use signed::i32_to_i64;
 
+// An interval and an overlap of it, of numbers of one type.
 #[derive(Clone, Copy)]
-pub enum IntervalFraction {
-    NoFraction,
-    Fraction(f64),
+pub struct Ends<T> {
+    pub interval: Interval<T>,
+    pub overlap: Interval<T>,
 }
 
-// Four ends, by the type of all four: those of a range and of its overlap.
+// Four ends of one type, by the type.
 #[derive(Clone, Copy)]
 pub enum ScalarEnds {
-    UnlikeTypes,
     NoWidth,
-    Integers {
-        lower: i64,
-        upper: i64,
-        overlap_lower: i64,
-        overlap_upper: i64,
-    },
-    Floats {
-        lower: f64,
-        upper: f64,
-        overlap_lower: f64,
-        overlap_upper: f64,
-    },
-    Decimals {
-        lower: i64,
-        upper: i64,
-        overlap_lower: i64,
-        overlap_upper: i64,
-    },
+    Integers(Ends<i64>),
+    Floats(Ends<f64>),
+    Decimals(Ends<i64>),
 }
 
-fn is_finite(x: f64) -> bool
-    ensures { result ≡ finite x }
+fn discrete(ends: Ends<i64>) -> Option<f64>
+    ensures { result ≡ discrete ends }
 {
-    both(-1.0 / 0.0 < x, x < 1.0 / 0.0)
-}
-
-fn discrete(lower: i64, upper: i64, overlap_lower: i64, overlap_upper: i64) -> IntervalFraction
-    ensures { result ≡ discrete lower upper overlap_lower overlap_upper }
-{
-    let width = nearest_difference(upper, lower, true);
-    let overlap = nearest_difference(overlap_upper, overlap_lower, true);
+    let width = nearest_difference(ends.interval.upper, ends.interval.lower, true);
+    let overlap = nearest_difference(ends.overlap.upper, ends.overlap.lower, true);
     if 0.0 < width {
-        return IntervalFraction::Fraction(clamp_unit(overlap / width));
+        return Some(clamp_unit(overlap / width));
     }
-    IntervalFraction::NoFraction
+    None
 }
 
-fn continuous(lower: f64, upper: f64, overlap_lower: f64, overlap_upper: f64) -> IntervalFraction
-    ensures { result ≡ continuous lower upper overlap_lower overlap_upper }
+fn continuous(ends: Ends<f64>) -> Option<f64>
+    ensures { result ≡ continuous ends }
 {
-    let width = upper - lower;
-    if either(!is_finite(width), width < 0.0) {
-        return IntervalFraction::NoFraction;
+    let width = ends.interval.upper - ends.interval.lower;
+    if !width.is_finite() || width < 0.0 {
+        return None;
     }
     if width == 0.0 {
-        return IntervalFraction::Fraction(1.0);
+        return Some(1.0);
     }
-    IntervalFraction::Fraction(clamp_unit((overlap_upper - overlap_lower) / width))
+    let overlap = ends.overlap.upper - ends.overlap.lower;
+    Some(clamp_unit(overlap / width))
 }
 
-fn decimal(lower: i64, upper: i64, overlap_lower: i64, overlap_upper: i64) -> IntervalFraction
-    ensures { result ≡ decimal lower upper overlap_lower overlap_upper }
+fn decimal(ends: Ends<i64>) -> Option<f64>
+    ensures { result ≡ decimal ends }
 {
-    if upper == lower {
-        return IntervalFraction::Fraction(1.0);
+    if ends.interval.upper == ends.interval.lower {
+        return Some(1.0);
     }
-    let width = nearest_difference(upper, lower, false);
-    let overlap = nearest_difference(overlap_upper, overlap_lower, false);
-    IntervalFraction::Fraction(clamp_unit(overlap / width))
+    let width = nearest_difference(ends.interval.upper, ends.interval.lower, false);
+    let overlap = nearest_difference(ends.overlap.upper, ends.overlap.lower, false);
+    Some(clamp_unit(overlap / width))
 }
 
-// The upper end and the overlap's two beside the lower end: all of its type, or unlike.
-fn integer_ends(
-    lower: i64,
-    upper: IntegerOption,
-    overlap_lower: IntegerOption,
-    overlap_upper: IntegerOption,
-) -> ScalarEnds
-    ensures { result ≡ integer_ends lower upper overlap_lower overlap_upper }
+// The upper end and the overlap's two beside the lower end, where all are of its type.
+fn typed_ends<T: Copy>(
+    lower: T,
+    upper: Option<T>,
+    overlap_lower: Option<T>,
+    overlap_upper: Option<T>,
+) -> Option<Ends<T>>
+    ensures { result ≡ typed_ends lower upper overlap_lower overlap_upper }
 {
-    match upper {
-        IntegerOption::NoInteger => ScalarEnds::UnlikeTypes,
-        IntegerOption::Integer(u) => match overlap_lower {
-            IntegerOption::NoInteger => ScalarEnds::UnlikeTypes,
-            IntegerOption::Integer(ol) => match overlap_upper {
-                IntegerOption::NoInteger => ScalarEnds::UnlikeTypes,
-                IntegerOption::Integer(ou) => ScalarEnds::Integers {
-                    lower,
-                    upper: u,
-                    overlap_lower: ol,
-                    overlap_upper: ou,
-                },
-            },
+    Some(Ends {
+        interval: Interval {
+            lower,
+            upper: upper?,
         },
-    }
-}
-
-fn float_ends(
-    lower: f64,
-    upper: FloatOption,
-    overlap_lower: FloatOption,
-    overlap_upper: FloatOption,
-) -> ScalarEnds
-    ensures { result ≡ float_ends lower upper overlap_lower overlap_upper }
-{
-    match upper {
-        FloatOption::NoFloat => ScalarEnds::UnlikeTypes,
-        FloatOption::FloatNumber(u) => match overlap_lower {
-            FloatOption::NoFloat => ScalarEnds::UnlikeTypes,
-            FloatOption::FloatNumber(ol) => match overlap_upper {
-                FloatOption::NoFloat => ScalarEnds::UnlikeTypes,
-                FloatOption::FloatNumber(ou) => ScalarEnds::Floats {
-                    lower,
-                    upper: u,
-                    overlap_lower: ol,
-                    overlap_upper: ou,
-                },
-            },
+        overlap: Interval {
+            lower: overlap_lower?,
+            upper: overlap_upper?,
         },
-    }
-}
-
-fn decimal_ends(
-    lower: i64,
-    upper: IntegerOption,
-    overlap_lower: IntegerOption,
-    overlap_upper: IntegerOption,
-) -> ScalarEnds
-    ensures { result ≡ decimal_ends lower upper overlap_lower overlap_upper }
-{
-    match upper {
-        IntegerOption::NoInteger => ScalarEnds::UnlikeTypes,
-        IntegerOption::Integer(u) => match overlap_lower {
-            IntegerOption::NoInteger => ScalarEnds::UnlikeTypes,
-            IntegerOption::Integer(ol) => match overlap_upper {
-                IntegerOption::NoInteger => ScalarEnds::UnlikeTypes,
-                IntegerOption::Integer(ou) => ScalarEnds::Decimals {
-                    lower,
-                    upper: u,
-                    overlap_lower: ol,
-                    overlap_upper: ou,
-                },
-            },
-        },
-    }
+    })
 }
 
 // Of a type without a width: whether the other three are of it.
-fn widthless_ends(upper: bool, overlap_lower: bool, overlap_upper: bool) -> ScalarEnds
+fn widthless_ends(upper: bool, overlap_lower: bool, overlap_upper: bool) -> Option<ScalarEnds>
     ensures { result ≡ widthless_ends upper overlap_lower overlap_upper }
 {
-    if both(upper, both(overlap_lower, overlap_upper)) {
-        return ScalarEnds::NoWidth;
+    if upper && overlap_lower && overlap_upper {
+        return Some(ScalarEnds::NoWidth);
     }
-    ScalarEnds::UnlikeTypes
+    None
 }
 
-fn is_month_day_nano(x: MonthDayNanoOption) -> bool
-    ensures { result ≡ is_month_day_nano x }
+// No shorter with the reader lent: each arm would have to say what its reader computes.
+fn scalar_ends(interval: Interval<Scalar>, overlap: Interval<Scalar>) -> Option<ScalarEnds>
+    ensures { result ≡ scalar_ends interval.lower interval.upper overlap.lower overlap.upper }
 {
-    match x {
-        MonthDayNanoOption::NoMonthDayNano => false,
-        MonthDayNanoOption::MonthDayNano {
-            months: _,
-            days: _,
-            nanoseconds: _,
-        } => true,
-    }
-}
-
-fn is_day_time(x: DayTimeOption) -> bool
-    ensures { result ≡ is_day_time x }
-{
-    match x {
-        DayTimeOption::NoDayTime => false,
-        DayTimeOption::DayTime {
-            days: _,
-            milliseconds: _,
-        } => true,
-    }
-}
-
-fn scalar_ends(
-    lower: Scalar,
-    upper: Scalar,
-    overlap_lower: Scalar,
-    overlap_upper: Scalar,
-) -> ScalarEnds
-    ensures { result ≡ scalar_ends lower upper overlap_lower overlap_upper }
-{
-    match lower {
+    match interval.lower {
         Scalar::Null => widthless_ends(
-            is_null(upper),
-            is_null(overlap_lower),
-            is_null(overlap_upper),
+            is_null(interval.upper),
+            is_null(overlap.lower),
+            is_null(overlap.upper),
         ),
-        Scalar::Boolean(b) => integer_ends(
-            boolean_integer(b),
-            as_boolean(upper),
-            as_boolean(overlap_lower),
-            as_boolean(overlap_upper),
-        ),
-        Scalar::Int32(v) => integer_ends(
-            i32_to_i64(v),
-            as_int32(upper),
-            as_int32(overlap_lower),
-            as_int32(overlap_upper),
-        ),
-        Scalar::Int64(v) => integer_ends(
+        Scalar::Boolean(b) => typed_ends(
+            i64::from(b),
+            as_boolean(interval.upper),
+            as_boolean(overlap.lower),
+            as_boolean(overlap.upper),
+        )
+        .map(ScalarEnds::Integers),
+        Scalar::Int32(v) => typed_ends(
+            i64::from(v),
+            as_int32(interval.upper),
+            as_int32(overlap.lower),
+            as_int32(overlap.upper),
+        )
+        .map(ScalarEnds::Integers),
+        Scalar::Int64(v) => typed_ends(
             v,
-            as_int64(upper),
-            as_int64(overlap_lower),
-            as_int64(overlap_upper),
-        ),
-        Scalar::Float64(v) => float_ends(
+            as_int64(interval.upper),
+            as_int64(overlap.lower),
+            as_int64(overlap.upper),
+        )
+        .map(ScalarEnds::Integers),
+        Scalar::Float64(v) => typed_ends(
             v,
-            as_float64(upper),
-            as_float64(overlap_lower),
-            as_float64(overlap_upper),
-        ),
+            as_float64(interval.upper),
+            as_float64(overlap.lower),
+            as_float64(overlap.upper),
+        )
+        .map(ScalarEnds::Floats),
         Scalar::Decimal128 {
             value,
             precision,
             scale,
-        } => decimal_ends(
+        } => typed_ends(
             value,
-            as_decimal128(precision, scale, upper),
-            as_decimal128(precision, scale, overlap_lower),
-            as_decimal128(precision, scale, overlap_upper),
+            as_decimal128(precision, scale, interval.upper),
+            as_decimal128(precision, scale, overlap.lower),
+            as_decimal128(precision, scale, overlap.upper),
+        )
+        .map(ScalarEnds::Decimals),
+        Scalar::Date32(v) => typed_ends(
+            i64::from(v),
+            as_date32(interval.upper),
+            as_date32(overlap.lower),
+            as_date32(overlap.upper),
+        )
+        .map(ScalarEnds::Integers),
+        Scalar::IntervalMonthDayNano { .. } => widthless_ends(
+            as_month_day_nano(interval.upper).is_some(),
+            as_month_day_nano(overlap.lower).is_some(),
+            as_month_day_nano(overlap.upper).is_some(),
         ),
-        Scalar::Date32(v) => integer_ends(
-            i32_to_i64(v),
-            as_date32(upper),
-            as_date32(overlap_lower),
-            as_date32(overlap_upper),
-        ),
-        Scalar::IntervalMonthDayNano {
-            months: _,
-            days: _,
-            nanoseconds: _,
-        } => widthless_ends(
-            is_month_day_nano(as_month_day_nano(upper)),
-            is_month_day_nano(as_month_day_nano(overlap_lower)),
-            is_month_day_nano(as_month_day_nano(overlap_upper)),
-        ),
-        Scalar::IntervalDayTime {
-            days: _,
-            milliseconds: _,
-        } => widthless_ends(
-            is_day_time(as_day_time(upper)),
-            is_day_time(as_day_time(overlap_lower)),
-            is_day_time(as_day_time(overlap_upper)),
+        Scalar::IntervalDayTime { .. } => widthless_ends(
+            as_day_time(interval.upper).is_some(),
+            as_day_time(overlap.lower).is_some(),
+            as_day_time(overlap.upper).is_some(),
         ),
     }
 }
 
-fn ends_fraction(ends: ScalarEnds) -> IntervalFraction
+fn ends_fraction(ends: ScalarEnds) -> Option<f64>
     ensures { result ≡ ends_fraction ends }
 {
     match ends {
-        ScalarEnds::UnlikeTypes => IntervalFraction::NoFraction,
-        ScalarEnds::NoWidth => IntervalFraction::NoFraction,
-        ScalarEnds::Integers {
-            lower,
-            upper,
-            overlap_lower,
-            overlap_upper,
-        } => discrete(lower, upper, overlap_lower, overlap_upper),
-        ScalarEnds::Floats {
-            lower,
-            upper,
-            overlap_lower,
-            overlap_upper,
-        } => continuous(lower, upper, overlap_lower, overlap_upper),
-        ScalarEnds::Decimals {
-            lower,
-            upper,
-            overlap_lower,
-            overlap_upper,
-        } => decimal(lower, upper, overlap_lower, overlap_upper),
+        ScalarEnds::NoWidth => None,
+        ScalarEnds::Integers(e) => discrete(e),
+        ScalarEnds::Floats(e) => continuous(e),
+        ScalarEnds::Decimals(e) => decimal(e),
     }
 }
 
 pub fn scalar_interval_fraction(
-    lower: Scalar,
-    upper: Scalar,
-    overlap_lower: Scalar,
-    overlap_upper: Scalar,
-) -> IntervalFraction
-    ensures { result ≡ scalar_interval_fraction lower upper overlap_lower overlap_upper }
+    interval: Interval<Scalar>,
+    overlap: Interval<Scalar>,
+) -> Option<f64>
+    ensures { result ≡ scalar_interval_fraction interval overlap }
 {
-    ends_fraction(scalar_ends(lower, upper, overlap_lower, overlap_upper))
+    ends_fraction(scalar_ends(interval, overlap)?)
 }

@@ -1,37 +1,20 @@
 // estimated_distinct_intersection of the source's analysis.rs.
 ghost use Rattle.std.specs.Prelude.{◌≡◌};
-ghost use Rattle.interval.specs.Intersection.{zip_bounds, overlapping, disjoint, overlap_lower, overlap_upper, at_least_point, shared_distinct, overlap_distinct, bounded_intersection, zipped_intersection, estimated_distinct_intersection};
+ghost use Rattle.interval.specs.Intersection.{overlapping, disjoint, overlap_lower, overlap_upper, overlap, at_least_point, shared_distinct, overlap_distinct, bounded_intersection, zipped_intersection, estimated_distinct_intersection};
 
-use crate::fraction::{IntervalFraction, scalar_interval_fraction};
+use crate::fraction::scalar_interval_fraction;
+use crate::{Interval, zip_bounds};
 use float::order::{f64_max, f64_min};
 use records::columns::ColumnProfile;
-use rules::either;
-use scalar::order::{is_equal, is_greater, is_less, scalar_order};
-use scalar::{Bound, Scalar};
+use scalar::Scalar;
+use scalar::order::scalar_order;
+use std::cmp::Ordering;
 
+// The source's struct: both fields are compared with the source's, of disjoint domains too.
 #[derive(Clone, Copy)]
 pub struct DistinctIntersection {
     pub distinct: f64,
     pub domains_disjoint: bool,
-}
-
-// The lower and the upper bound of a column, where it has both.
-#[derive(Clone, Copy)]
-pub enum BoundPair {
-    Missing,
-    Both { lower: Scalar, upper: Scalar },
-}
-
-fn zip_bounds(lower: Bound, upper: Bound) -> BoundPair
-    ensures { result ≡ zip_bounds lower upper }
-{
-    match lower {
-        Bound::Absent => BoundPair::Missing,
-        Bound::Present(l) => match upper {
-            Bound::Absent => BoundPair::Missing,
-            Bound::Present(u) => BoundPair::Both { lower: l, upper: u },
-        },
-    }
 }
 
 fn overlapping(distinct: f64) -> DistinctIntersection
@@ -44,24 +27,18 @@ fn overlapping(distinct: f64) -> DistinctIntersection
 }
 
 // One upper bound strictly below the other lower one.
-fn disjoint(
-    left_lower: Scalar,
-    left_upper: Scalar,
-    right_lower: Scalar,
-    right_upper: Scalar,
-) -> bool
-    ensures { result ≡ disjoint left_lower left_upper right_lower right_upper }
+fn disjoint(left: Interval<Scalar>, right: Interval<Scalar>) -> bool
+    ensures { result ≡ disjoint left right }
 {
-    either(
-        is_less(scalar_order(left_upper, right_lower)),
-        is_less(scalar_order(right_upper, left_lower)),
-    )
+    scalar_order(left.upper, right.lower) == Some(Ordering::Less)
+        || scalar_order(right.upper, left.lower) == Some(Ordering::Less)
 }
 
+// No plainer as one function of the order: the laws would need a word for "this order".
 fn overlap_lower(left: Scalar, right: Scalar) -> Scalar
     ensures { result ≡ overlap_lower left right }
 {
-    if is_less(scalar_order(left, right)) {
+    if scalar_order(left, right) == Some(Ordering::Less) {
         return right;
     }
     left
@@ -70,10 +47,19 @@ fn overlap_lower(left: Scalar, right: Scalar) -> Scalar
 fn overlap_upper(left: Scalar, right: Scalar) -> Scalar
     ensures { result ≡ overlap_upper left right }
 {
-    if is_greater(scalar_order(left, right)) {
+    if scalar_order(left, right) == Some(Ordering::Greater) {
         return right;
     }
     left
+}
+
+fn overlap(left: Interval<Scalar>, right: Interval<Scalar>) -> Interval<Scalar>
+    ensures { result ≡ overlap left right }
+{
+    Interval {
+        lower: overlap_lower(left.lower, right.lower),
+        upper: overlap_upper(left.upper, right.upper),
+    }
 }
 
 fn at_least_point(point: bool, estimate: f64) -> f64
@@ -85,9 +71,10 @@ fn at_least_point(point: bool, estimate: f64) -> f64
     estimate
 }
 
+// The distincts stay apart, as in the source: they go with fractions, intervals and profiles.
 fn shared_distinct(
-    left: IntervalFraction,
-    right: IntervalFraction,
+    left: Option<f64>,
+    right: Option<f64>,
     point: bool,
     left_distinct: f64,
     right_distinct: f64,
@@ -95,84 +82,63 @@ fn shared_distinct(
     ensures { result ≡ shared_distinct left right point left_distinct right_distinct }
 {
     let smaller = f64_min(left_distinct, right_distinct);
-    match left {
-        IntervalFraction::NoFraction => smaller,
-        IntervalFraction::Fraction(x) => match right {
-            IntervalFraction::NoFraction => smaller,
-            IntervalFraction::Fraction(y) => {
-                let parts = f64_min(left_distinct * x, right_distinct * y);
-                at_least_point(point, f64_min(parts, smaller))
-            }
-        },
-    }
+    let (Some(x), Some(y)) = (left, right) else {
+        return smaller;
+    };
+    let parts = f64_min(left_distinct * x, right_distinct * y);
+    at_least_point(point, f64_min(parts, smaller))
 }
 
 fn overlap_distinct(
-    left_lower: Scalar,
-    left_upper: Scalar,
-    right_lower: Scalar,
-    right_upper: Scalar,
+    left: Interval<Scalar>,
+    right: Interval<Scalar>,
     left_distinct: f64,
     right_distinct: f64,
 ) -> f64
-    ensures { result ≡ overlap_distinct left_lower left_upper right_lower right_upper left_distinct right_distinct }
+    ensures { result ≡ overlap_distinct left right left_distinct right_distinct }
 {
-    let lower = overlap_lower(left_lower, right_lower);
-    let upper = overlap_upper(left_upper, right_upper);
-    let left = scalar_interval_fraction(left_lower, left_upper, lower, upper);
-    let right = scalar_interval_fraction(right_lower, right_upper, lower, upper);
-    let point = is_equal(scalar_order(lower, upper));
-    shared_distinct(left, right, point, left_distinct, right_distinct)
+    let both = overlap(left, right);
+    let left_fraction = scalar_interval_fraction(left, both);
+    let right_fraction = scalar_interval_fraction(right, both);
+    let point = scalar_order(both.lower, both.upper) == Some(Ordering::Equal);
+    shared_distinct(
+        left_fraction,
+        right_fraction,
+        point,
+        left_distinct,
+        right_distinct,
+    )
 }
 
 fn bounded_intersection(
-    left_lower: Scalar,
-    left_upper: Scalar,
-    right_lower: Scalar,
-    right_upper: Scalar,
+    left: Interval<Scalar>,
+    right: Interval<Scalar>,
     left_distinct: f64,
     right_distinct: f64,
 ) -> DistinctIntersection
-    ensures { result ≡ bounded_intersection left_lower left_upper right_lower right_upper left_distinct right_distinct }
+    ensures { result ≡ bounded_intersection left right left_distinct right_distinct }
 {
-    if disjoint(left_lower, left_upper, right_lower, right_upper) {
+    if disjoint(left, right) {
         return DistinctIntersection {
             distinct: 0.0,
             domains_disjoint: true,
         };
     }
-    overlapping(overlap_distinct(
-        left_lower,
-        left_upper,
-        right_lower,
-        right_upper,
-        left_distinct,
-        right_distinct,
-    ))
+    overlapping(overlap_distinct(left, right, left_distinct, right_distinct))
 }
 
 fn zipped_intersection(
-    left: BoundPair,
-    right: BoundPair,
+    left: Option<Interval<Scalar>>,
+    right: Option<Interval<Scalar>>,
     left_distinct: f64,
     right_distinct: f64,
 ) -> DistinctIntersection
     ensures { result ≡ zipped_intersection left right left_distinct right_distinct }
 {
-    let smaller = overlapping(f64_min(left_distinct, right_distinct));
-    match left {
-        BoundPair::Missing => smaller,
-        BoundPair::Both {
-            lower: ll,
-            upper: lu,
-        } => match right {
-            BoundPair::Missing => smaller,
-            BoundPair::Both {
-                lower: rl,
-                upper: ru,
-            } => bounded_intersection(ll, lu, rl, ru, left_distinct, right_distinct),
-        },
-    }
+    let (Some(x), Some(y)) = (left, right) else {
+        return overlapping(f64_min(left_distinct, right_distinct));
+    };
+    bounded_intersection(x, y, left_distinct, right_distinct)
 }
 
 pub fn estimated_distinct_intersection(
@@ -183,16 +149,12 @@ pub fn estimated_distinct_intersection(
 ) -> DistinctIntersection
     ensures { result ≡ estimated_distinct_intersection left right left_distinct right_distinct }
 {
-    if either(left_distinct <= 0.0, right_distinct <= 0.0) {
+    if left_distinct <= 0.0 || right_distinct <= 0.0 {
         return overlapping(0.0);
     }
-    let left_lower = left.lower;
-    let left_upper = left.upper;
-    let right_lower = right.lower;
-    let right_upper = right.upper;
     zipped_intersection(
-        zip_bounds(left_lower, left_upper),
-        zip_bounds(right_lower, right_upper),
+        zip_bounds(left.lower, left.upper),
+        zip_bounds(right.lower, right.upper),
         left_distinct,
         right_distinct,
     )

@@ -7,7 +7,7 @@ use native.Mathlib.Omega.{arith}
 use lib.Ieee.{Float}
 use lib.Dec.{eqb}
 use lib.ListN.{length, get_or, set, take, drop, replicate, length-append, length-map, length-replicate}
-use lib.Seq.{drop_at, length-take-le}
+use lib.Seq.{drop_at, length-take-le, take_at}
 use Rattle.le.specs.Fields.{onto}
 use Rattle.layout.specs.Places.{column_limit, conjunct_limit}
 use Rattle.estimate.specs.declared.Estimate.{Estimate}
@@ -24,6 +24,7 @@ use Rattle.equality_pairs.specs.declared.pairs.EqualityPair.{EqualityPair}
 use Rattle.equality_pairs.specs.NonNull.{non_null_marks}
 use Rattle.edge.specs.declared.EqualityEdge.{EqualityEdge}
 use Rattle.edge.specs.declared.LeftEqualityCoverage.{LeftEqualityCoverage}
+use Rattle.edge_order.specs.declared.EdgeKey.{EdgeKey}
 use Rattle.edge_order.specs.Order.{number_before, edge_order}
 use Rattle.edge_order.proofs.SortLaws.{sort_in}
 use Rattle.edge_fold.specs.Edges.{equality_edge, equality_edges}
@@ -120,6 +121,13 @@ module _ (sheet : Sheet) (conjuncts : List ℕ) (taken : Conjuncts) (e : taken �
   unfolding take_conjuncts
   taken_pairs = ap (λ (t : Conjuncts). pairs_in t.pairs) e ∙ pairs_held (equality_pairs sheet conjuncts)
 
+  -- those that stand in the first places
+  pub taken_first : take taken.pairs.count taken.pairs.pairs ≡ pairs_in taken.pairs
+  unfolding take_conjuncts
+  taken_first =
+      let pairs : List EqualityPair = equality_pairs sheet conjuncts in
+      ap (λ (t : Conjuncts). take t.pairs.count t.pairs.pairs) e ∙ take_at pairs (replicate (conjunct_limit - length pairs) no_pair) (length pairs) refl ∙ sym taken_pairs
+
   pub taken_residual : taken.residual_selectivity ≡ residual_selectivity sheet conjuncts
   unfolding take_conjuncts
   taken_residual = ap (λ (t : Conjuncts). t.residual_selectivity) e
@@ -173,13 +181,13 @@ placed_each [] h k = omega arith
 placed_each (x ∷ l) h zero = h x (Memᴰ.head refl)
 placed_each (x ∷ l) h (suc k) = placed_each l (λ (y : ℕ) (m : Memᴰ y l). h y (Memᴰ.tail m)) k
 
-pub order_placed : (n : ℕ) (distincts : List Float) (kinds : List Bool) (before order : List ℕ) → n ≤ conjunct_limit → Placed before → order ≡ take (conjunct_limit - n) before ++ edge_order distincts kinds n → Placed order
+pub order_placed : (n : ℕ) (keys : List EdgeKey) (before order : List ℕ) → n ≤ conjunct_limit → Placed before → order ≡ take (conjunct_limit - n) before ++ edge_order keys n → Placed order
 unfolding edge_order
-order_placed n distincts kinds before order h b e = subst Placed (sym e) (placed_append (take (conjunct_limit - n) before) (edge_order distincts kinds n) (placed_take (conjunct_limit - n) before b) (placed_each (edge_order distincts kinds n) within))
+order_placed n keys before order h b e = subst Placed (sym e) (placed_append (take (conjunct_limit - n) before) (edge_order keys n) (placed_take (conjunct_limit - n) before b) (placed_each (edge_order keys n) within))
   where
-    within : (x : ℕ) → Memᴰ x (edge_order distincts kinds n) → x < conjunct_limit
+    within : (x : ℕ) → Memᴰ x (edge_order keys n) → x < conjunct_limit
     within x m =
-        let r = tabulate_in itself n x (sort_in (number_before distincts kinds) (tabulate itself n) x m) in
+        let r = tabulate_in itself n x (sort_in (number_before keys) (tabulate itself n) x m) in
         less r.0 r.1 r.2
       where
         less : (j : ℕ) → j < n → x ≡ j → x < conjunct_limit

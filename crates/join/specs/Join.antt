@@ -1,9 +1,8 @@
 -- `join_selectivity_from_conjuncts_with_config` of the source's analysis.rs. The conjuncts are a list of their own, so that a join can be asked about others than the sheet's. Definitions only.
-use Rattle.std.specs.Prelude.{ℕ, cond, List, Float}
+use Rattle.std.specs.Prelude.{ℕ, cond, List, Some, Float}
 use Rattle.std.specs.Float.{binary64}
 use Rattle.std.specs.Float.Ieee.{mul}
 use Rattle.float.specs.Order.{f64_zero, f64_max, clamp_unit}
-use Rattle.float.specs.Option.{some}
 use Rattle.estimate.specs.Estimates.{derived}
 use Rattle.estimate.specs.declared.Estimate.{Estimate}
 use Rattle.records.specs.Classes.{ColumnEquivalenceClass}
@@ -40,7 +39,7 @@ join_match figures right_rows residual upper = cond figures.has_cross_input_equa
 
 unfoldable pub match_estimate : Float → Float → Estimate
 unfolding derived
-match_estimate match upper = derived match (some f64_zero) (some (f64_max upper match))
+match_estimate match upper = derived match (Some f64_zero) (Some (f64_max upper match))
 
 -- from those of the equalities, the right rows and the residual
 unfoldable pub join_figures : EqualityFigures → Float → Float → JoinFigures

@@ -1,18 +1,17 @@
 -- The conjuncts that equate no columns, and the probability that a left row finds a partner through them: `residual_selectivity`, `residual_conditional_fanout` and `residual_match_probability` in the source's analysis.rs, with document 01's power in place of powf. Definitions only.
-use Rattle.std.specs.Prelude.{ℕ, ◌||◌, cond, List, [], ◌∷◌, Float}
+use Rattle.std.specs.Prelude.{ℕ, ◌||◌, cond, List, [], ◌∷◌, Float, Option, None, Some}
 use Rattle.std.specs.Float.{binary64}
 use Rattle.std.specs.Float.Ieee.{sub, mul, div, le, eq}
 use Rattle.float.specs.Order.{f64_zero, f64_one, f64_max, clamp_unit}
 use Rattle.power.specs.Power.{power}
 use Rattle.sheet.specs.Sheet.{Sheet}
 use Rattle.parts.specs.Parts.{column_equality}
-use Rattle.parts.specs.declared.equalities.ColumnEquality.{ColumnEquality}
-use Rattle.parts.specs.declared.equalities.ColumnEquality.TheVariants.{Absent, Present}
+use Rattle.parts.specs.declared.equalities.EqualColumns.{EqualColumns}
 use Rattle.predicate.specs.Predicate.{filter_selectivity_for_predicate}
 
-abbrev pub times_predicate : Sheet → Float → ℕ → ColumnEquality → Float
-times_predicate sheet product e Absent = mul binary64 product (filter_selectivity_for_predicate sheet e).value
-times_predicate sheet product e (Present left right) = product
+abbrev pub times_predicate : Sheet → Float → ℕ → Option EqualColumns → Float
+times_predicate sheet product e None = mul binary64 product (filter_selectivity_for_predicate sheet e).value
+times_predicate sheet product e (Some columns) = product
 
 -- in the order of the conjuncts
 unfoldable pub residual_from : Sheet → Float → List ℕ → Float

@@ -17,7 +17,7 @@ use conjuncts::take_conjuncts;
 use edge::places::edge_places;
 use edge_fold::edges::equality_edge;
 use edge_fold::fold::{EqualityFigures, EqualityTotals, edge_totals};
-use edge_order::edge_order;
+use edge_order::{EdgeKey, NO_KEY, edge_order};
 use equality_pairs::non_null::non_null_marks;
 use estimate::Estimate;
 use figures::join_figures;
@@ -42,13 +42,6 @@ pub struct Joined {
     pub coverages: usize,
 }
 
-// A number of an edge as an index.
-fn wide(x: u8) -> usize
-    ensures { result ≡ x }
-{
-    x as usize
-}
-
 // The edges' distincts are those of the classes that the profiles give.
 pub fn join_selectivity_from_conjuncts(
     s: &[u8],
@@ -67,23 +60,22 @@ pub fn join_selectivity_from_conjuncts(
     let residual = taken.residual_selectivity;
     let n = pairs.count;
     let held = pairs.pairs;
-    let marks = non_null_marks(pairs);
+    let marks = non_null_marks(&held[..n]);
     let profiles = from_profiles(s, q);
     let profile_roots = profiles.roots;
-    let mut keys = [0.0f64; CONJUNCT_LIMIT];
-    let mut kinds = [false; CONJUNCT_LIMIT];
-    let mut i: usize = 0;
-    while i < n {
+    let mut keys = [NO_KEY; CONJUNCT_LIMIT];
+    for i in 0..n {
         let pair = held[i];
         let a = root_of(&profile_roots, pair.left) as usize;
         let b = root_of(&profile_roots, pair.right) as usize;
         let edge = equality_edge(&marks, pair, profiles.distincts[a], profiles.distincts[b]);
-        keys[i] = edge.chosen_ndv.value;
-        kinds[i] = edge.null_safe;
-        i += 1;
+        keys[i] = EdgeKey {
+            distinct: edge.chosen_ndv.value,
+            null_safe: edge.null_safe,
+        };
     }
     let mut order = [0u8; CONJUNCT_LIMIT];
-    edge_order(&keys, &kinds, n, &mut order);
+    edge_order(&keys, &mut order[CONJUNCT_LIMIT - n..]);
     let mut totals = EqualityTotals {
         figures: EqualityFigures {
             selectivity: 1.0,
@@ -94,10 +86,8 @@ pub fn join_selectivity_from_conjuncts(
     };
     let mut roots = profiles.roots;
     let mut distincts = profiles.distincts;
-    let mut j = CONJUNCT_LIMIT - n;
-    while j < CONJUNCT_LIMIT {
-        let k = wide(order[j]);
-        let pair = held[k];
+    for j in CONJUNCT_LIMIT - n..CONJUNCT_LIMIT {
+        let pair = held[order[j] as usize];
         let a = root_of(&profile_roots, pair.left) as usize;
         let b = root_of(&profile_roots, pair.right) as usize;
         let edge = equality_edge(&marks, pair, profiles.distincts[a], profiles.distincts[b]);
@@ -114,18 +104,13 @@ pub fn join_selectivity_from_conjuncts(
             edge.chosen_ndv,
         );
         move_roots(&mut roots, from, to);
-        j += 1;
     }
-    let equality = totals.figures;
-    let figures = join_figures(equality, right_rows(s, q), residual);
-    let selectivity = figures.selectivity;
-    let match_probability = figures.match_probability;
-    let classes = EquivalenceClassState { roots, distincts };
+    let figures = join_figures(totals.figures, right_rows(s, q), residual);
     Joined {
-        selectivity,
-        match_probability,
+        selectivity: figures.selectivity,
+        match_probability: figures.match_probability,
         residual_selectivity: residual,
-        classes,
+        classes: EquivalenceClassState { roots, distincts },
         marks,
         coverages: totals.coverages,
     }

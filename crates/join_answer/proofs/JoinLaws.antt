@@ -5,7 +5,7 @@ use mathlib.Core.List.{List, ◌++◌}
 use native.Mathlib.Omega.{arith}
 use lib.Ieee.{Float}
 use lib.ListN.{length, take, drop, length-append, length-map}
-use lib.Seq.{take_at, drop-append-add, drop-drop}
+use lib.Seq.{take_at}
 use Rattle.le.specs.Fields.{field_bytes, u16_bytes, onto}
 use Rattle.le.proofs.FieldLaws.{bytes_length}
 use Rattle.le.proofs.OntoLaws.{onto_part, onto_length}
@@ -19,7 +19,7 @@ use Rattle.layout.specs.Places.{column_limit, conjunct_limit, number_size, cover
 use Rattle.class_state.specs.State.{returned_roots, class_at_root, into_classes}
 use Rattle.class_state.specs.Bytes.{classes_bytes}
 use Rattle.class_state.specs.Sizes.{member_count, returned_count, counts_size}
-use Rattle.class_state.proofs.SizeLaws.{classes_size, classes_size_law}
+use Rattle.class_state.proofs.SizeLaws.{classes_size_law}
 use Rattle.class_state.proofs.CountLaws.{counts_size_law, counts_returned}
 use Rattle.equality_pairs.specs.Pairs.{equality_pairs}
 use Rattle.equality_pairs.specs.NonNull.{marked_columns}
@@ -86,21 +86,6 @@ module _ (a b : Estimate) (x : Float) (n : ℕ) where
 
     pub front_put_length : length (take join_classes_offset X ++ (Y ++ drop k (drop join_classes_offset X))) ≡ length out
     front_put_length = let l = front_length in ap length front_put ∙ onto_length front out (omega arith)
-
--- a slice X got `front` at its front, then more behind it: both, by what the slice was before
-onto_behind : (front more out X Y : List ℕ) (n : ℕ) → length front ≡ n → X ≡ onto front out → Y ≡ onto (take n X ++ more) X → Y ≡ onto (front ++ more) out
-unfolding onto
-onto_behind front more out X Y n l x y =
-    let rest : List ℕ = drop (length front) out in
-    let both : length (front ++ more) ≡ length front + length more = length-append front more in
-    y
-    ∙ ap (λ (f : List ℕ). (f ++ more) ++ drop (length (f ++ more)) X) (ap (take n) x ∙ take_at front rest n l)
-    ∙ ap (λ (z : List ℕ). (front ++ more) ++ z)
-    (ap (λ (k : ℕ). drop k X) both
-    ∙ ap (drop (length front + length more)) x
-    ∙ drop-append-add front rest (length more)
-    ∙ drop-drop (length more) (length front) out
-    ∙ ap (λ (k : ℕ). drop k out) (sym both))
 
 -- ---- what the join hands out
 
@@ -186,12 +171,25 @@ module _ (sheet : Sheet) (conjuncts : List ℕ) (r : Joined) (e : r ≡ joined s
           ((counted 1 (figures_are i) ++ u16_bytes (count i)) ++ classes_bytes (classes_are i))
           ++ (counted (coverages_are i) (coverages_front i) ++ counted_numbers (columns_are i))
 
-      -- of a slice that held X with the figures and the count at its front, then Y with the classes behind them
-      pub all_put : (lent X Y Z : List ℕ) (at k : ℕ) → X ≡ onto in_front lent → Y ≡ onto (take first_class_offset X ++ classes) X → at ≡ first_class_offset + classes_size r.classes.roots → at ≤ length lent → k ≡ length Y - at
-          → Z ≡ onto behind (take k (drop at Y)) → take at Y ++ (Z ++ drop k (drop at Y)) ≡ onto (join_bytes j) lent
-      all_put lent X Y Z at k x y a h g z =
-          let d = length-append in_front classes in
-          let l = front_length r.selectivity r.match_probability r.residual_selectivity n in
-          let s = classes_size_law r.classes in
-          onto_part (in_front ++ classes) behind lent Y Z at k (omega arith) g h (onto_behind in_front classes lent X Y first_class_offset l x y) z
-          ∙ ap (λ (bs : List ℕ). onto bs lent) parts_are
+      -- a slice holds the figures and the count at its front, then gets the classes behind them, then the rest
+      module _ (lent X Y : List ℕ) (k : ℕ) (room : length (join_bytes j) ≤ length lent) (x : X ≡ onto in_front lent) (l : k ≡ length X - first_class_offset) (y : Y ≡ onto classes (take k (drop first_class_offset X))) where
+        abbrev with_classes : List ℕ
+        with_classes = take first_class_offset X ++ (Y ++ drop k (drop first_class_offset X))
+
+        classes_put : with_classes ≡ onto (in_front ++ classes) lent
+        classes_put = onto_part in_front classes lent X Y first_class_offset k (front_length r.selectivity r.match_probability r.residual_selectivity n) l (let a = join_length j in omega arith) x y
+
+        all_length : length (in_front ++ classes) + length behind ≡ length (join_bytes j)
+        all_length = sym (length-append (in_front ++ classes) behind) ∙ ap length parts_are
+
+        pub classes_put_length : length with_classes ≡ length lent
+        classes_put_length = let a = all_length in ap length classes_put ∙ onto_length (in_front ++ classes) lent (omega arith)
+
+        pub all_put : (Z : List ℕ) (at m : ℕ) → at ≡ first_class_offset + counts_size counts → m ≡ length with_classes - at → Z ≡ onto behind (take m (drop at with_classes)) → take at with_classes ++ (Z ++ drop m (drop at with_classes)) ≡ onto (join_bytes j) lent
+        all_put Z at m a g z =
+            let d = length-append in_front classes in
+            let f = front_length r.selectivity r.match_probability r.residual_selectivity n in
+            let s = classes_size_law r.classes in
+            let u = counts_size_law r.classes.roots counts c in
+            let w = all_length in
+            onto_part (in_front ++ classes) behind lent with_classes Z at m (omega arith) g (omega arith) classes_put z ∙ ap (λ (bs : List ℕ). onto bs lent) parts_are

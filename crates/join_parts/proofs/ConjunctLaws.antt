@@ -8,11 +8,9 @@ use lib.Seq.{take_all}
 use Rattle.le.specs.Fields.{onto, u16_at}
 use Rattle.layout.specs.Places.{conjunct_limit, count_size, number_size}
 use Rattle.sheet.specs.Order.{conjuncts_number, section_at, sections_in}
-use Rattle.sheet.specs.Check.{sheet_refusal, check}
+use Rattle.sheet.specs.Check.{Checked, Accepted, sheet_refusal, check}
 use Rattle.sheet.specs.Sheet.{records_in, conjuncts_of, conjuncts_in}
 use Rattle.sheet.specs.declared.Sections.{Sections}
-use Rattle.sheet.specs.declared.Checked.{Checked}
-use Rattle.sheet.specs.declared.Checked.TheVariants.{Accepted}
 use Rattle.sheet.specs.declared.order.Kind.TheVariants.{Conjuncts}
 use Rattle.sheet.proofs.PlaceLaws.{conjuncts_fixed}
 use Rattle.sheet.proofs.SheetLaws.{records_length, fixed_record_at}

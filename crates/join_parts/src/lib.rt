@@ -17,16 +17,12 @@ use le::writes::put_u16;
 
 pub mod conjuncts;
 
-// The first n bytes of `from`.
-fn put_bytes(from: &[u8], n: usize, out: &mut [u8])
-    requires { (n ≤ length from.now) × (n ≤ length out.old) }
-    ensures { out.new ≡ onto (take n from.now) out.old }
+// All bytes of `from`.
+fn put_bytes(from: &[u8], out: &mut [u8])
+    requires { length from.now ≤ length out.old }
+    ensures { out.new ≡ onto from.now out.old }
 {
-    let mut i: usize = 0;
-    while i < n {
-        out[i] = from[i];
-        i += 1;
-    }
+    out[..from.len()].copy_from_slice(from);
 }
 
 fn put_figures(
@@ -68,8 +64,9 @@ fn put_coverages_part(bytes: &[u8], n: usize, out: &mut [u8]) -> usize
     ensures out_after { out.new ≡ onto (counted n (take (coverage_size * n) bytes.now)) out.old }
 {
     put_u16(out, n as u16);
-    put_bytes(bytes, COVERAGE_SIZE * n, &mut out[COUNT_SIZE..]);
-    COUNT_SIZE + COVERAGE_SIZE * n
+    let size = COVERAGE_SIZE * n;
+    put_bytes(&bytes[..size], &mut out[COUNT_SIZE..]);
+    COUNT_SIZE + size
 }
 
 // The non-null columns, where it is known how many there are.

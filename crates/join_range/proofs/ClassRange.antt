@@ -1,7 +1,6 @@
 -- Every distinct in the classes that a join goes through is an estimate that a sheet may hold: those of the profiles, of the sheet's classes and of the setting are, and a union takes one of them. Assumes nothing.
 use Prim.Native.Nat.{ℕ}
 use mathlib.Core.Path.{refl}
-use mathlib.Core.Logic.{inl, inr}
 use mathlib.Core.List.{List, [], ◌∷◌}
 use lib.ListN.{length}
 use lib.Ieee.{le}
@@ -13,7 +12,8 @@ use Rattle.estimate.specs.declared.Estimate.{Estimate}
 use Rattle.records.specs.Classes.{ColumnEquivalenceClass}
 use Rattle.sheet.specs.Sheet.{Sheet}
 use Rattle.lawful.specs.Lawful.{Each, LawfulClass, LawfulSheet}
-use Rattle.lookup.specs.Lookup.{ProfileAndRows, Absent, Present, profile_and_rows}
+use Rattle.std.specs.Prelude.{Option, None, Some}
+use Rattle.lookup.specs.Lookup.{ProfileAndRows, profile_and_rows}
 use Rattle.predicate_range.proofs.NumberRange.{either}
 use Rattle.predicate_range.proofs.FoundRange.{LawfulFound, profile_lawful}
 use Rattle.layout.specs.Places.{column_limit}
@@ -40,7 +40,7 @@ zero_lawful = record { held = zero_unit.held; lawful = tt }
 
 no_lawful : LawfulEstimate no_distinct
 unfolding no_distinct
-no_lawful = record { value = zero_lawful; lower = inl (refl, zero_lawful); upper = inr refl }
+no_lawful = record { value = zero_lawful; lower = zero_lawful; upper = refl }
 
 -- ---- union
 under_lawful : (state : EquivalenceClassState) (to from : ℕ) (distinct : Estimate) → LawfulState state → LawfulEstimate distinct → LawfulState (under state to from distinct)
@@ -80,11 +80,11 @@ classes_lawful state (class ∷ classes) s c =
 module _ (sheet : Sheet) (h : LawfulSheet sheet) where
   unknown_lawful : LawfulEstimate (unknown_distinct sheet)
   unfolding unknown_distinct
-  unknown_lawful = record { value = h.settings.unknown_column_ndv_cap; lower = inl (refl, zero_lawful); upper = inr refl }
+  unknown_lawful = record { value = h.settings.unknown_column_ndv_cap; lower = zero_lawful; upper = refl }
 
-  own_lawful : (found : ProfileAndRows) → LawfulFound (length sheet.sketches) found → LawfulEstimate (own_distinct sheet found)
-  own_lawful Absent f = unknown_lawful
-  own_lawful (Present profile rows) f = f.0.distinct
+  own_lawful : (found : Option ProfileAndRows) → LawfulFound (length sheet.sketches) found → LawfulEstimate (own_distinct sheet found)
+  own_lawful None f = unknown_lawful
+  own_lawful (Some (profile, rows)) f = f.0.distinct
 
   apart_lawful : LawfulState (apart sheet)
   unfolding apart

@@ -1,4 +1,6 @@
 -- What one equality comes to: its selectivity and the part of the left rows that find a partner lie from 0 to 1, and its coverage in its ranges. Assumes nothing.
+use Rattle.std.specs.Prelude.{Option, None, Some, IfSome, unwrap_or}
+use Rattle.std.proofs.lemmas.Option.{IfSome_then}
 use Prim.Native.Nat.{ℕ}
 use mathlib.Core.Path.{◌≡◌, refl}
 use mathlib.Core.Bool.{Bool, true, false, not, ◌&&◌, ◌||◌, cond}
@@ -7,16 +9,11 @@ use lib.ListN.{length}
 use lib.Ieee.{Float, binary64, add, sub, mul, div, lt, le, fits}
 use lib.Ieee.Fits.{and_l, and_r}
 use Rattle.float.specs.Order.{f64_zero, f64_one, f64_max, nonneg, Unit01}
-use Rattle.float.specs.Option.{none}
-use Rattle.float.specs.declared.option.OptionF64.{OptionF64}
 use Rattle.float.proofs.NonNegLaws.{le_trans}
 use Rattle.float.proofs.UnitLaws.{zero_unit, one_unit, mul_unit}
 use Rattle.estimate.specs.Bytes.{LawfulFigure}
 use Rattle.estimate.specs.declared.Estimate.{Estimate}
-use Rattle.records.specs.declared.catalog.RowCount.{RowCount}
-use Rattle.records.specs.declared.catalog.RowCount.TheVariants.{Unknown, Known}
 use Rattle.records.specs.declared.columns.BaseColumn.{BaseColumn}
-use Rattle.records.specs.declared.columns.BaseColumn.TheVariants.{Absent as NoBase, Present as Base}
 use Rattle.records.specs.declared.columns.ColumnProfile.{ColumnProfile}
 use Rattle.sheet.specs.Sheet.{Sheet}
 use Rattle.record_rules.specs.Lawful.{LawfulColumn}
@@ -25,7 +22,9 @@ use Rattle.units.specs.Sizes.{UpTo, AtLeast}
 use Rattle.units.proofs.SizeLaws.{up_to_more, unit_up_to, zero_up_to, add_up_to, mul_up_to, div_up_to, clamped_up_to}
 use Rattle.units.proofs.FigureLaws.{figure_up_to, figure_at_least, figure_max, figure_max_one_order, share_unit}
 use Rattle.units.proofs.UnitOperations.{complement_unit, quotient_unit}
-use Rattle.lookup.specs.Lookup.{ProfileAndRows, Absent, Present, left_profile, right_profile, profile_and_rows}
+use Rattle.std.specs.Prelude.{Option, None, Some}
+use Rattle.std.specs.Option.{option_or}
+use Rattle.lookup.specs.Lookup.{ProfileAndRows, left_profile, right_profile, profile_and_rows}
 use Rattle.interval.specs.Intersection.{estimated_distinct_intersection}
 use Rattle.interval.specs.declared.intersection.DistinctIntersection.{DistinctIntersection}
 use Rattle.fraction_range.specs.Distinct.{DistinctWithin}
@@ -36,9 +35,9 @@ use Rattle.predicate_range.proofs.ColumnRange.{fraction_unit}
 use Rattle.predicate_range.proofs.SketchRange.{NumberInUnit}
 use Rattle.sketch_join.specs.SketchJoin.{sketch_join_estimate, sketch_left_match_probability}
 use Rattle.keys.specs.Keys.{is_catalog, has_rows, row_count, single_column_unique, single_column_foreign_key, profile_has_complete_base_population, distinct_by_base, effective_join_distinct}
-use Rattle.edge.specs.Oriented.{OrientedColumns, NotOriented, Oriented, oriented_as, or_else_oriented, oriented_join_columns, distinct_or_one, join_column_distinct, fraction_or_one, join_column_non_null_fraction}
+use Rattle.edge.specs.Oriented.{OrientedColumns, oriented_as, oriented_join_columns, distinct_or_one, join_column_distinct, fraction_or_one, join_column_non_null_fraction}
 use Rattle.edge.specs.Inputs.{has_null, null_pair_selectivity, null_match_probability, edge_inputs}
-use Rattle.edge.specs.Figures.{disjoint_estimate, foreign_key_estimate, equal_non_null, uniform_pair_selectivity, uniform_non_null_match_probability, or_else_float, at_least_uniform, overlap_estimate}
+use Rattle.edge.specs.Figures.{disjoint_estimate, foreign_key_estimate, equal_non_null, uniform_pair_selectivity, uniform_non_null_match_probability, at_least_uniform, overlap_estimate}
 use Rattle.edge.specs.Edge.{unoriented_estimate, bases_referenced, is_reference, unless_null_safe, estimate_by_sketches, estimate_by_inputs, oriented_estimate, estimate_as, equality_edge_estimate}
 use Rattle.edge.specs.declared.EqualityEdge.{EqualityEdge}
 use Rattle.edge.specs.declared.EdgeInputs.{EdgeInputs}
@@ -53,26 +52,26 @@ unfolding fits le
 one_figure = record { held = tt; lawful = tt }
 
 -- ---- columns
-distinct_figure : (n : ℕ) (found : ProfileAndRows) → LawfulFound n found → LawfulFigure (distinct_or_one found)
-distinct_figure n Absent f = one_figure
-distinct_figure n (Present profile rows) f = f.0.distinct.value
+distinct_figure : (n : ℕ) (found : Option ProfileAndRows) → LawfulFound n found → LawfulFigure (distinct_or_one found)
+distinct_figure n None f = one_figure
+distinct_figure n (Some (profile, rows)) f = f.0.distinct.value
 
-fraction_in_unit : (n : ℕ) (found : ProfileAndRows) → LawfulFound n found → Unit01 (fraction_or_one found)
-fraction_in_unit n Absent f = one_unit
-fraction_in_unit n (Present profile rows) f = fraction_unit profile.frequency.value rows f.0.frequency.value f.1
+fraction_in_unit : (n : ℕ) (found : Option ProfileAndRows) → LawfulFound n found → Unit01 (fraction_or_one found)
+fraction_in_unit n None f = one_unit
+fraction_in_unit n (Some (profile, rows)) f = fraction_unit profile.frequency.value rows f.0.frequency.value f.1
 
-abbrev LawfulOriented : ℕ → OrientedColumns → Type 0
-LawfulOriented n NotOriented = Unit {0}
-LawfulOriented n (Oriented left_column right_column left right) = LawfulColumn n left × LawfulColumn n right
+abbrev LawfulOriented : ℕ → Option OrientedColumns → Type 0
+LawfulOriented n None = Unit {0}
+LawfulOriented n (Some columns) = LawfulColumn n columns.left × LawfulColumn n columns.right
 
-as_lawful : (n left_column right_column : ℕ) (x y : ProfileAndRows) → LawfulFound n x → LawfulFound n y → LawfulOriented n (oriented_as left_column right_column x y)
-as_lawful n left_column right_column Absent y f g = tt
-as_lawful n left_column right_column (Present left left_rows) Absent f g = tt
-as_lawful n left_column right_column (Present left left_rows) (Present right right_rows) f g = (f.0, g.0)
+as_lawful : (n left_column right_column : ℕ) (x y : Option ProfileAndRows) → LawfulFound n x → LawfulFound n y → LawfulOriented n (oriented_as left_column right_column x y)
+as_lawful n left_column right_column None y f g = tt
+as_lawful n left_column right_column (Some (left, left_rows)) None f g = tt
+as_lawful n left_column right_column (Some (left, left_rows)) (Some (right, right_rows)) f g = (f.0, g.0)
 
-or_else_lawful : (n : ℕ) (x y : OrientedColumns) → LawfulOriented n x → LawfulOriented n y → LawfulOriented n (or_else_oriented x y)
-or_else_lawful n NotOriented y f g = g
-or_else_lawful n (Oriented left_column right_column left right) y f g = f
+or_else_lawful : (n : ℕ) (x y : Option OrientedColumns) → LawfulOriented n x → LawfulOriented n y → LawfulOriented n (option_or x y)
+or_else_lawful n None y f g = g
+or_else_lawful n (Some columns) y f g = f
 
 -- ---- the inputs
 record InputsInRange (x : EdgeInputs) : Type 0 where
@@ -117,9 +116,9 @@ disjoint_range x r = record {
 }
 
 -- ---- a foreign key: the right rows are the whole number of a table's
-rows_from_one : (x : Float) (count : RowCount) → T (nonneg x) → lt f64_zero x ≡ true → T (has_rows x count) → T (le f64_one x)
-rows_from_one x Unknown p k h = absurd h
-rows_from_one x (Known n) p k h = level_from_one x n p k h
+rows_from_one : (x : Float) (count : Option ℕ) → T (nonneg x) → lt f64_zero x ≡ true → T (has_rows x count) → T (le f64_one x)
+rows_from_one x None p k h = absurd h
+rows_from_one x (Some n) p k h = level_from_one x n p k h
 
 module _ (sheet : Sheet) (p : T (nonneg sheet.right_rows.value)) (k : lt f64_zero sheet.right_rows.value ≡ true) where
   population_from_one : (table : ℕ) → T (profile_has_complete_base_population sheet sheet.right_rows table) → T (le f64_one sheet.right_rows.value)
@@ -128,17 +127,17 @@ module _ (sheet : Sheet) (p : T (nonneg sheet.right_rows.value)) (k : lt f64_zer
       let count = row_count table sheet.tables in
       rows_from_one sheet.right_rows.value count p k (and_r (is_catalog sheet.right_rows.source) (has_rows sheet.right_rows.value count) h)
 
-  bases_from_one : (left right : BaseColumn) → T (bases_referenced sheet left right) → T (le f64_one sheet.right_rows.value)
-  bases_from_one NoBase right h = absurd h
-  bases_from_one (Base table column) NoBase h = absurd h
-  bases_from_one (Base table column) (Base referenced_table referenced_column) h =
-      population_from_one referenced_table (and_r (single_column_foreign_key sheet table column referenced_table referenced_column) (profile_has_complete_base_population sheet sheet.right_rows referenced_table) h)
+  bases_from_one : (left right : Option BaseColumn) → T (bases_referenced sheet left right) → T (le f64_one sheet.right_rows.value)
+  bases_from_one None right h = absurd h
+  bases_from_one (Some column) None h = absurd h
+  bases_from_one (Some column) (Some referenced) h =
+      population_from_one referenced.table (and_r (single_column_foreign_key sheet column referenced) (profile_has_complete_base_population sheet sheet.right_rows referenced.table) h)
 
 is_true : (b : Bool) → T b → b ≡ true
 is_true true t = refl
 is_true false t = absurd t
 
-reference_from_one : (sheet : Sheet) (null_safe : Bool) (left right : BaseColumn) → T (nonneg sheet.right_rows.value) → T (is_reference sheet null_safe left right) → T (le f64_one sheet.right_rows.value)
+reference_from_one : (sheet : Sheet) (null_safe : Bool) (left right : Option BaseColumn) → T (nonneg sheet.right_rows.value) → T (is_reference sheet null_safe left right) → T (le f64_one sheet.right_rows.value)
 unfolding is_reference
 reference_from_one sheet null_safe left right p h =
     let some = lt f64_zero sheet.right_rows.value in
@@ -162,6 +161,10 @@ foreign_range x rows r p k = record {
 }
 
 -- ---- every other equality
+pair_or : (x : Option Float) (y : Float) → NumberInUnit x → UpTo 193 y → UpTo 193 (unwrap_or x y)
+pair_or None y u v = v
+pair_or (Some x) y u v = up_to_more 0 193 x (lit≤ tt) (unit_up_to x u)
+
 module _ (x : EdgeInputs) (r : InputsInRange x) (intersection : Float) (w : DistinctWithin x.left_distinct x.right_distinct intersection) where
   abbrev left : Float
   left = x.left_distinct
@@ -205,16 +208,20 @@ module _ (x : EdgeInputs) (r : InputsInRange x) (intersection : Float) (w : Dist
   match_in_unit_law : T (le f64_one left) → Unit01 (uniform_non_null_match_probability x intersection)
   match_in_unit_law k = uniform_is Unit01 zero_unit (λ a. share_in_unit left right intersection r.left r.right w x.left_non_null r.left_non_null a k)
 
-  module _ (sketch_pair sketch_match : OptionF64) (u : NumberInUnit sketch_pair) (v : NumberInUnit sketch_match) where
+  module _ (sketch_pair sketch_match : Option Float) (u : NumberInUnit sketch_pair) (v : NumberInUnit sketch_match) where
     abbrev uniform : Float
     uniform = uniform_non_null_match_probability x intersection
 
     -- the uniform one, or the larger of it and the sketches'
-    larger : (P : Float → Type 0) → P sketch_match.number → P uniform → P (at_least_uniform sketch_match uniform)
-    larger P s p = either P sketch_match.present (f64_max sketch_match.number uniform) uniform (either P (lt sketch_match.number uniform) uniform sketch_match.number p s) p
+    larger : (P : Float → Type 0) → IfSome sketch_match P → P uniform → P (at_least_uniform sketch_match uniform)
+    larger P s p = go sketch_match s
+      where
+        go : (x : Option Float) → IfSome x P → P (at_least_uniform x uniform)
+        go None s = p
+        go (Some figure) s = either P (lt figure uniform) uniform figure p s
 
     non_null_up_to : UpTo 64 (at_least_uniform sketch_match uniform)
-    non_null_up_to = larger (UpTo 64) (up_to_more 0 64 sketch_match.number (lit≤ tt) (unit_up_to sketch_match.number v)) match_up_to
+    non_null_up_to = larger (UpTo 64) (IfSome_then sketch_match v (λ x u. up_to_more 0 64 x (lit≤ tt) (unit_up_to x u))) match_up_to
 
     overlap_range : EdgeEstimateInRange (overlap_estimate x intersection sketch_pair sketch_match)
     unfolding overlap_estimate
@@ -223,7 +230,7 @@ module _ (x : EdgeInputs) (r : InputsInRange x) (intersection : Float) (w : Dist
         let match = at_least_uniform sketch_match uniform in
         let nulls = x.null_match_probability in
         record {
-          pair_selectivity = clamped_up_to 193 (or_else_float sketch_pair pair) (either (UpTo 193) sketch_pair.present sketch_pair.number pair (up_to_more 0 193 sketch_pair.number (lit≤ tt) (unit_up_to sketch_pair.number u)) pair_up_to);
+          pair_selectivity = clamped_up_to 193 (unwrap_or sketch_pair pair) (pair_or sketch_pair pair u pair_up_to);
           left_match_probability = clamped_up_to 65 (add binary64 match nulls) (add_up_to 64 match nulls (lit≤ tt) non_null_up_to (up_to_more 0 64 nulls (lit≤ tt) (unit_up_to nulls r.null_match)));
           left_coverage = record {
             input_distinct = r.left;
@@ -263,10 +270,10 @@ module _ (sheet : Sheet) (h : LawfulSheet sheet) where
         left_coverage = tt;
       }
 
-  by_base_figure : (rows : Estimate) (base : BaseColumn) (profile : ColumnProfile) → LawfulColumn n profile → LawfulFigure (distinct_by_base sheet rows base profile)
-  by_base_figure rows NoBase profile p = p.distinct.value
-  by_base_figure rows (Base table column) profile p =
-      either LawfulFigure (single_column_unique sheet table column && profile_has_complete_base_population sheet rows table) profile.frequency.value profile.distinct.value p.frequency.value p.distinct.value
+  by_base_figure : (rows : Estimate) (base : Option BaseColumn) (profile : ColumnProfile) → LawfulColumn n profile → LawfulFigure (distinct_by_base sheet rows base profile)
+  by_base_figure rows None profile p = p.distinct.value
+  by_base_figure rows (Some column) profile p =
+      either LawfulFigure (single_column_unique sheet column && profile_has_complete_base_population sheet rows column.table) profile.frequency.value profile.distinct.value p.frequency.value p.distinct.value
 
   effective_figure : (rows : Estimate) (profile : ColumnProfile) → LawfulColumn n profile → LawfulFigure (effective_join_distinct sheet rows profile)
   unfolding effective_join_distinct
@@ -302,8 +309,8 @@ module _ (sheet : Sheet) (h : LawfulSheet sheet) where
         let fl = p.frequency.value in
         let rl = h.left_rows.value in
         overlap_range x r intersection w (unless_null_safe x.null_safe pair) (unless_null_safe x.null_safe match)
-        (either NumberInUnit x.null_safe none pair zero_unit (sketch_join_unit sheet.sketches h.sketches left right left_rows right_rows fl rl q.frequency.value h.right_rows.value p.distinct.value q.distinct.value))
-        (either NumberInUnit x.null_safe none match zero_unit (sketch_match_unit sheet.sketches h.sketches left right left_rows right_rows fl rl intersection x.left_distinct (shared_up_to x.left_distinct x.right_distinct intersection r.left r.right w) (figure_up_to x.left_distinct r.left)))
+        (either NumberInUnit x.null_safe None pair tt (sketch_join_unit sheet.sketches h.sketches left right left_rows right_rows fl rl q.frequency.value h.right_rows.value p.distinct.value q.distinct.value))
+        (either NumberInUnit x.null_safe None match tt (sketch_match_unit sheet.sketches h.sketches left right left_rows right_rows fl rl intersection x.left_distinct (shared_up_to x.left_distinct x.right_distinct intersection r.left r.right w) (figure_up_to x.left_distinct r.left)))
 
     by_inputs_range : (intersection : DistinctIntersection) → DistinctWithin x.left_distinct x.right_distinct intersection.distinct → EdgeEstimateInRange (estimate_by_inputs sheet x left right intersection)
     unfolding estimate_by_inputs
@@ -342,15 +349,15 @@ module _ (sheet : Sheet) (h : LawfulSheet sheet) where
       right_lawful column = profile_in_lawful n sheet.right_rows.value h.right_rows.value column sheet.right_columns h.right_columns
 
   module _ (edge : EqualityEdge) (r : EdgeInRange edge) where
-    as_range : (columns : OrientedColumns) → LawfulOriented n columns → EdgeEstimateInRange (estimate_as sheet edge columns)
-    as_range NotOriented l = unoriented_range edge.left edge.right
-    as_range (Oriented left_column right_column left right) l =
-        let same = eqb left_column edge.left in
+    as_range : (columns : Option OrientedColumns) → LawfulOriented n columns → EdgeEstimateInRange (estimate_as sheet edge columns)
+    as_range None l = unoriented_range edge.left edge.right
+    as_range (Some columns) l =
+        let same = eqb columns.left_column edge.left in
         let left_ndv = edge.left_ndv.value in
         let right_ndv = edge.right_ndv.value in
         let f = r.left_ndv.value in
         let g = r.right_ndv.value in
-        oriented_range left_column right_column left right edge.null_safe (cond same left_ndv right_ndv) (cond same right_ndv left_ndv) l.0 l.1 (either LawfulFigure same left_ndv right_ndv f g) (either LawfulFigure same right_ndv left_ndv g f)
+        oriented_range columns.left_column columns.right_column columns.left columns.right edge.null_safe (cond same left_ndv right_ndv) (cond same right_ndv left_ndv) l.0 l.1 (either LawfulFigure same left_ndv right_ndv f g) (either LawfulFigure same right_ndv left_ndv g f)
 
     pub edge_estimate_range : EdgeEstimateInRange (equality_edge_estimate sheet edge)
     unfolding equality_edge_estimate

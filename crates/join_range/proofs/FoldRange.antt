@@ -11,12 +11,12 @@ use Rattle.equality_pairs.specs.declared.pairs.EqualityPair.{EqualityPair}
 use Rattle.equality_pairs.specs.NonNull.{non_null_marks}
 use Rattle.edge.specs.Edge.{equality_edge_estimate}
 use Rattle.edge.specs.declared.EqualityEdge.{EqualityEdge}
-use Rattle.edge.specs.declared.LeftCoverage.{LeftCoverage}
-use Rattle.edge.specs.declared.LeftCoverage.TheVariants.{Absent as NoCoverage, Present as Coverage}
+use Rattle.std.specs.Prelude.{Option, None, Some, option_to_list}
+use Rattle.edge.specs.declared.LeftEqualityCoverage.{LeftEqualityCoverage}
 use Rattle.edge.specs.declared.EqualityEdgeEstimate.{EqualityEdgeEstimate}
 use Rattle.edge_fold.specs.Sides.{connects_inputs}
 use Rattle.edge_fold.specs.Edges.{equality_edges}
-use Rattle.edge_fold.specs.Fold.{no_equality, zeroed, multiplied, with_estimate, coverage_of, Folded, edge_figures, edge_coverages, with_edge, with_edges, folded_pairs}
+use Rattle.edge_fold.specs.Fold.{no_equality, zeroed, multiplied, with_estimate, Folded, edge_figures, edge_coverages, with_edge, with_edges, folded_pairs}
 use Rattle.edge_fold.specs.declared.fold.EqualityFigures.{EqualityFigures}
 use Rattle.join_range.specs.Range.{EdgeInRange, CoverageInRange, LeftCoverageInRange, EdgeEstimateInRange}
 use Rattle.join_range.proofs.EachLaws.{each_none, each_more, each_first, each_rest, each_append}
@@ -49,9 +49,9 @@ estimate_range figures estimate same r e =
     either FiguresInRange same before (multiplied before estimate) z (multiplied_range before estimate z e)
 
 -- ---- coverages
-coverage_range : (x : LeftCoverage) → LeftCoverageInRange x → Each CoverageInRange (coverage_of x)
-coverage_range NoCoverage c = each_none CoverageInRange
-coverage_range (Coverage x) c = each_more CoverageInRange x [] c (each_none CoverageInRange)
+coverage_range : (x : Option LeftEqualityCoverage) → LeftCoverageInRange x → Each CoverageInRange (option_to_list x)
+coverage_range None c = each_none CoverageInRange
+coverage_range (Some x) c = each_more CoverageInRange x [] c (each_none CoverageInRange)
 
 -- ---- the loop
 pub record FoldedInRange (x : Folded) : Type 0 where
@@ -70,7 +70,7 @@ module _ (sheet : Sheet) (h : LawfulSheet sheet) where
     coverages_range : (same : Bool) → Each CoverageInRange (edge_coverages sheet edge same)
     unfolding edge_coverages
     coverages_range same =
-        let l = coverage_of (equality_edge_estimate sheet edge).left_coverage in
+        let l = option_to_list (equality_edge_estimate sheet edge).left_coverage in
         let none = each_none CoverageInRange in
         either (Each CoverageInRange) (connects_inputs sheet edge.left edge.right) (cond same [] l) [] (either (Each CoverageInRange) same [] l none (coverage_range (equality_edge_estimate sheet edge).left_coverage (edge_estimate_range sheet h edge r).left_coverage)) none
 

@@ -7,16 +7,16 @@ use Rattle.float.proofs.UnitLaws.{one_unit, mul_unit}
 use Rattle.sheet.specs.Sheet.{Sheet}
 use Rattle.lawful.specs.Lawful.{LawfulSheet}
 use Rattle.parts.specs.Parts.{column_equality}
-use Rattle.parts.specs.declared.equalities.ColumnEquality.{ColumnEquality}
-use Rattle.parts.specs.declared.equalities.ColumnEquality.TheVariants.{Absent, Present}
+use Rattle.std.specs.Prelude.{Option, None, Some}
+use Rattle.parts.specs.declared.equalities.EqualColumns.{EqualColumns}
 use Rattle.predicate.specs.Predicate.{filter_selectivity_for_predicate}
 use Rattle.predicate_range.proofs.RangeLaws.{lawful_predicate}
 use Rattle.join.specs.Residual.{times_predicate, residual_from, residual_selectivity}
 
 module _ (sheet : Sheet) (h : LawfulSheet sheet) where
-  times_unit : (product : Float) (e : ℕ) (c : ColumnEquality) → Unit01 product → Unit01 (times_predicate sheet product e c)
-  times_unit product e Absent u = mul_unit product (filter_selectivity_for_predicate sheet e).value u (lawful_predicate sheet h e)
-  times_unit product e (Present left right) u = u
+  times_unit : (product : Float) (e : ℕ) (c : Option EqualColumns) → Unit01 product → Unit01 (times_predicate sheet product e c)
+  times_unit product e None u = mul_unit product (filter_selectivity_for_predicate sheet e).value u (lawful_predicate sheet h e)
+  times_unit product e (Some columns) u = u
 
   from_unit : (product : Float) (l : List ℕ) → Unit01 product → Unit01 (residual_from sheet product l)
   unfolding residual_from

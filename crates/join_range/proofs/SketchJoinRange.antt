@@ -1,4 +1,5 @@
 -- What two sketches tell of a join lies from 0 to 1; where they tell nothing, 0 stands in its place. Sums over the items of a sketch, of which there are 64 at most, stay far below the largest floats. Assumes nothing.
+use Rattle.std.specs.Prelude.{None, Some, Option}
 use Prim.Native.Nat.{ℕ, zero, suc, ◌+◌, ◌^◌, ◌≤◌}
 use mathlib.Core.Path.{◌≡◌, refl}
 use mathlib.Core.Bool.{Bool, true, false, ◌&&◌, ◌||◌, cond, true≢false}
@@ -12,29 +13,24 @@ use lib.ListN.{length}
 use lib.Ieee.{Float, binary64, of_int, add, sub, mul, div, lt}
 use lib.Ieee.Fits.{div-fits}
 use Rattle.float.specs.Order.{f64_zero, f64_one, f64_max, f64_min, Unit01}
-use Rattle.float.specs.Option.{some, none}
-use Rattle.float.proofs.UnitLaws.{zero_unit}
 use Rattle.estimate.specs.Bytes.{LawfulFigure}
 use Rattle.records.specs.Sketches.{Sketch}
 use Rattle.records.specs.declared.sketches.SketchItem.{SketchItem}
 use Rattle.records.specs.declared.columns.ColumnProfile.{ColumnProfile}
-use Rattle.records.specs.declared.columns.SketchNumber.{SketchNumber}
-use Rattle.records.specs.declared.columns.SketchNumber.TheVariants.{Absent as NoSketch, Present as SketchNo}
 use Rattle.sketch_rules.specs.Lawful.{LawfulItem}
 use Rattle.lawful.specs.Lawful.{Each, LawfulSketch}
 use Rattle.units.specs.Sizes.{UpTo, AtLeast}
 use Rattle.units.proofs.SizeLaws.{up_to_more, unit_up_to, zero_up_to, one_up_to, add_up_to, mul_up_to, div_up_to, max_at_least, count_up_to, count_at_least, at_least_positive, clamped_up_to}
 use Rattle.units.proofs.SpreadLaws.{sub_nonneg_spread, up_to_stepped, spread_max_zero}
 use Rattle.units.proofs.CountLaws.{rest_max_one}
+use Rattle.sketch.specs.declared.items.Counts.{Counts}
 use Rattle.sketch.specs.Frequent.{sketch_of, find_item}
-use Rattle.sketch.specs.declared.items.FoundItem.{FoundItem}
-use Rattle.sketch.specs.declared.items.FoundItem.TheVariants.{Absent, Present}
 use Rattle.range.specs.Selectivity.{non_null_fraction}
 use Rattle.predicate_range.proofs.NumberRange.{either}
 use Rattle.predicate_range.proofs.FoundRange.{sketch_lawful, LawfulItemFound, item_lawful}
 use Rattle.predicate_range.proofs.ColumnRange.{fraction_unit}
 use Rattle.predicate_range.proofs.SketchRange.{NumberInUnit}
-use Rattle.sketch_join.specs.SketchJoin.{non_null_rows, with_common, common_from, common_values, residual_join_rows, pair_selectivity, either_empty, sketches_join, numbered_join, sketch_join_estimate, with_matched, matched_from, matched_values, residual_matched_left_rows, match_probability, sketches_match, numbered_match, sketch_left_match_probability}
+use Rattle.sketch_join.specs.SketchJoin.{non_null_rows, with_common, summed, common_from, common_values, residual_join_rows, pair_selectivity, either_empty, sketches_join, numbered_join, sketch_join_estimate, with_matched, matched_from, matched_values, residual_matched_left_rows, match_probability, sketches_match, numbered_match, sketch_left_match_probability}
 use Rattle.sketch_join.specs.declared.sums.CommonValues.{CommonValues}
 use Rattle.sketch_join.specs.declared.sums.MatchedValues.{MatchedValues}
 use Rattle.join_range.proofs.EachLaws.{each_first, each_rest}
@@ -93,24 +89,24 @@ later h l = omega arith
 values_more : (v h : ℕ) → v ≤ h → v + 1 ≤ suc h
 values_more v h l = omega arith
 
-with_common_law : (h : ℕ) (sums : CommonValues) (lower : ℕ) (found : FoundItem) → 106 ≤ h → suc h ≤ 1023 → lower ≤ 2 ^ 53 → LawfulItemFound found → CommonUpTo h sums → CommonUpTo (suc h) (with_common sums lower found)
+with_common_law : (h : ℕ) (sums : CommonValues) (lower : ℕ) (found : Option Counts) → 106 ≤ h → suc h ≤ 1023 → lower ≤ 2 ^ 53 → LawfulItemFound found → CommonUpTo h sums → CommonUpTo (suc h) (with_common sums lower found)
 unfolding with_common
-with_common_law h sums lower Absent a b l i c = common_more h (suc h) sums (Nat.le-suc h) c
-with_common_law h sums lower (Present other error) a b l i c =
+with_common_law h sums lower None a b l i c = common_more h (suc h) sums (Nat.le-suc h) c
+with_common_law h sums lower (Some other) a b l i c =
     let u = count_up_to 53 lower (lit≤ tt) l in
-    let v = count_up_to 53 other (lit≤ tt) i.0 in
+    let v = count_up_to 53 other.lower (lit≤ tt) i.0 in
     let few : 53 ≤ h = Nat.le_trans (lit≤ tt) a in
-    either (CommonUpTo (suc h)) (lt f64_zero (count lower) && lt f64_zero (count other)) _ sums
+    either (CommonUpTo (suc h)) (lt f64_zero (count lower) && lt f64_zero (count other.lower)) _ sums
     (record {
-      heavy = add_up_to h sums.heavy_join_rows (mul binary64 (count lower) (count other)) b c.heavy (up_to_more 106 h (mul binary64 (count lower) (count other)) a (mul_up_to 53 53 (count lower) (count other) (lit≤ tt) u v));
+      heavy = add_up_to h sums.heavy_join_rows (mul binary64 (count lower) (count other.lower)) b c.heavy (up_to_more 106 h (mul binary64 (count lower) (count other.lower)) a (mul_up_to 53 53 (count lower) (count other.lower) (lit≤ tt) u v));
       left = add_up_to h sums.common_left_rows (count lower) b c.left (up_to_more 53 h (count lower) few u);
-      right = add_up_to h sums.common_right_rows (count other) b c.right (up_to_more 53 h (count other) few v);
+      right = add_up_to h sums.common_right_rows (count other.lower) b c.right (up_to_more 53 h (count other.lower) few v);
       values = values_more sums.common_values h c.values;
     })
     (common_more h (suc h) sums (Nat.le-suc h) c)
 
 common_up_to : (h : ℕ) (sums : CommonValues) (left right : List SketchItem) → 106 ≤ h → h + length left ≤ 170 → Each LawfulItem left → Each LawfulItem right → CommonUpTo h sums → CommonUpTo 170 (common_from sums left right)
-unfolding common_from
+unfolding summed
 common_up_to h sums [] right a b l r c = common_more h 170 sums (below_all h 0 b) c
 common_up_to h sums (x ∷ xs) right a b l r c =
     let found = find_item x.value right in
@@ -156,8 +152,8 @@ pair_unit left right sums residual l r c u e =
     clamped_up_to 341 (div binary64 rows (mul binary64 x y))
     (div_up_to 341 0 rows (mul binary64 x y) (lit≤ tt) (add_up_to 340 sums.heavy_join_rows residual (lit≤ tt) (up_to_more 170 340 sums.heavy_join_rows (lit≤ tt) c.heavy) u) (mul_at_least 0 0 x y (lit≤ tt) a b m.low))
 
-some_unit : (b : Bool) (x : Float) → (b ≡ false → Unit01 x) → NumberInUnit (cond b none (some x))
-some_unit true x u = zero_unit
+some_unit : (b : Bool) (x : Float) → (b ≡ false → Unit01 x) → NumberInUnit (cond b None (Some x))
+some_unit true x u = tt
 some_unit false x u = u refl
 
 -- ---- the part of the left rows that find a partner
@@ -168,11 +164,11 @@ record MatchedUpTo (h : ℕ) (sums : MatchedValues) : Type 0 where
 matched_more : (h k : ℕ) (sums : MatchedValues) → h ≤ k → MatchedUpTo h sums → MatchedUpTo k sums
 matched_more h k sums l c = record { known = up_to_more h k sums.known_matched_left_rows l c.known; common = up_to_more h k sums.common_values l c.common }
 
-with_matched_law : (h : ℕ) (sums : MatchedValues) (lower : ℕ) (found : FoundItem) → 106 ≤ h → suc h ≤ 1023 → lower ≤ 2 ^ 53 → MatchedUpTo h sums → MatchedUpTo (suc h) (with_matched sums lower found)
+with_matched_law : (h : ℕ) (sums : MatchedValues) (lower : ℕ) (found : Option Counts) → 106 ≤ h → suc h ≤ 1023 → lower ≤ 2 ^ 53 → MatchedUpTo h sums → MatchedUpTo (suc h) (with_matched sums lower found)
 unfolding with_matched
-with_matched_law h sums lower Absent a b l c = matched_more h (suc h) sums (Nat.le-suc h) c
-with_matched_law h sums lower (Present other error) a b l c =
-    either (MatchedUpTo (suc h)) (lt f64_zero (count lower) && ltb 0 other) _ sums
+with_matched_law h sums lower None a b l c = matched_more h (suc h) sums (Nat.le-suc h) c
+with_matched_law h sums lower (Some other) a b l c =
+    either (MatchedUpTo (suc h)) (lt f64_zero (count lower) && ltb 0 other.lower) _ sums
     (record {
       known = add_up_to h sums.known_matched_left_rows (count lower) b c.known (up_to_more 53 h (count lower) (Nat.le_trans (lit≤ tt) a) (count_up_to 53 lower (lit≤ tt) l));
       common = add_up_to h sums.common_values f64_one b c.common (one_up_to h);
@@ -180,7 +176,7 @@ with_matched_law h sums lower (Present other error) a b l c =
     (matched_more h (suc h) sums (Nat.le-suc h) c)
 
 matched_from_law : (h : ℕ) (sums : MatchedValues) (left right : List SketchItem) → 106 ≤ h → h + length left ≤ 170 → Each LawfulItem left → MatchedUpTo h sums → MatchedUpTo 170 (matched_from sums left right)
-unfolding matched_from
+unfolding summed
 matched_from_law h sums [] right a b l c = matched_more h 170 sums (below_all h 0 b) c
 matched_from_law h sums (x ∷ xs) right a b l c =
     let found = find_item x.value right in
@@ -226,10 +222,10 @@ module _ (sketches : List Sketch) (l : Each LawfulSketch sketches) (left right :
         some_unit (either_empty x y) (pair_selectivity x y sums residual)
         (pair_unit x y sums residual a b c (residual_up_to sums p q left.distinct.value right.distinct.value c (rows_up_to x left left_rows a lf lr) (rows_up_to y right right_rows b rf rr) ld rd))
 
-    numbered_join_law : (i j : SketchNumber) → NumberInUnit (numbered_join i j sketches left left_rows right right_rows)
-    numbered_join_law NoSketch j = zero_unit
-    numbered_join_law (SketchNo i) NoSketch = zero_unit
-    numbered_join_law (SketchNo i) (SketchNo j) = sketches_join_law (sketch_of sketches i) (sketch_of sketches j) (sketch_lawful sketches l i) (sketch_lawful sketches l j)
+    numbered_join_law : (i j : Option ℕ) → NumberInUnit (numbered_join i j sketches left left_rows right right_rows)
+    numbered_join_law None j = tt
+    numbered_join_law (Some i) None = tt
+    numbered_join_law (Some i) (Some j) = sketches_join_law (sketch_of sketches i) (sketch_of sketches j) (sketch_lawful sketches l i) (sketch_lawful sketches l j)
 
     pub sketch_join_unit : NumberInUnit (sketch_join_estimate sketches left left_rows right right_rows)
     unfolding sketch_join_estimate
@@ -246,10 +242,10 @@ module _ (sketches : List Sketch) (l : Each LawfulSketch sketches) (left right :
         some_unit (either_empty x y) (match_probability x sums residual)
         (λ e. match_unit x sums residual a c (residual_clear sums rows intersection distinct c (rows_up_to x left left_rows a lf lr) u v) (neither (eqb x.population 0) (eqb y.population 0) e).0)
 
-    numbered_match_law : (i j : SketchNumber) → NumberInUnit (numbered_match i j sketches left left_rows intersection distinct)
-    numbered_match_law NoSketch j = zero_unit
-    numbered_match_law (SketchNo i) NoSketch = zero_unit
-    numbered_match_law (SketchNo i) (SketchNo j) = sketches_match_law (sketch_of sketches i) (sketch_of sketches j) (sketch_lawful sketches l i)
+    numbered_match_law : (i j : Option ℕ) → NumberInUnit (numbered_match i j sketches left left_rows intersection distinct)
+    numbered_match_law None j = tt
+    numbered_match_law (Some i) None = tt
+    numbered_match_law (Some i) (Some j) = sketches_match_law (sketch_of sketches i) (sketch_of sketches j) (sketch_lawful sketches l i)
 
     pub sketch_match_unit : NumberInUnit (sketch_left_match_probability sketches left left_rows right intersection distinct)
     unfolding sketch_left_match_probability

@@ -1,9 +1,8 @@
 -- Where the figures of a join's answer lie. `Unit01 x` says of a float that it is one of binary64, finite, with its sign bit clear, and at most 1; `UpTo 64` has 2 ^ 64 in place of 1; `LawfulFigure` is what a sheet may hold: +0, or from 2 ^ -64 to 2 ^ 64. So none is a NaN, an infinity or -0. Definitions only.
 use Prim.{Unit}
-use Rattle.std.specs.Prelude.{◌≡◌, T}
+use Rattle.std.specs.Prelude.{◌≡◌, T, Some, Option, None}
 use Rattle.std.specs.Float.Ieee.{le}
 use Rattle.float.specs.Order.{f64_zero, f64_one, f64_max, Unit01}
-use Rattle.float.specs.Option.{some}
 use Rattle.estimate.specs.Estimates.{lower_bound, upper_bound}
 use Rattle.estimate.specs.Bytes.{LawfulFigure, LawfulEstimate}
 use Rattle.records.specs.Classes.{ColumnEquivalenceClass}
@@ -12,8 +11,6 @@ use Rattle.units.specs.Sizes.{UpTo}
 use Rattle.predicate_range.specs.Range.{BoundedInUnit}
 use Rattle.edge.specs.declared.EqualityEdge.{EqualityEdge}
 use Rattle.edge.specs.declared.LeftEqualityCoverage.{LeftEqualityCoverage}
-use Rattle.edge.specs.declared.LeftCoverage.{LeftCoverage}
-use Rattle.edge.specs.declared.LeftCoverage.TheVariants.{Absent as NoCoverage, Present as Coverage}
 use Rattle.edge.specs.declared.EqualityEdgeEstimate.{EqualityEdgeEstimate}
 use Rattle.join.specs.Join.{JoinSelectivityEstimate}
 
@@ -35,9 +32,9 @@ pub record CoverageInRange (x : LeftEqualityCoverage) : Type 0 where
   pub match_in_unit : T (le f64_one x.input_distinct) → Unit01 x.non_null_match_probability
   pub null_match_probability : Unit01 x.null_match_probability
 
-abbrev pub LeftCoverageInRange : LeftCoverage → Type 0
-LeftCoverageInRange NoCoverage = Unit {0}
-LeftCoverageInRange (Coverage coverage) = CoverageInRange coverage
+abbrev pub LeftCoverageInRange : Option LeftEqualityCoverage → Type 0
+LeftCoverageInRange None = Unit {0}
+LeftCoverageInRange (Some coverage) = CoverageInRange coverage
 
 -- ---- what one equality comes to
 pub record EdgeEstimateInRange (x : EqualityEdgeEstimate) : Type 0 where
@@ -52,10 +49,10 @@ ClassInRange x = LawfulEstimate x.distinct
 -- ---- the answer
 pub record JoinInRange (x : JoinSelectivityEstimate) : Type 0 where
   pub selectivity : BoundedInUnit x.selectivity
-  pub selectivity_lower : lower_bound x.selectivity ≡ some f64_zero
-  pub selectivity_upper : upper_bound x.selectivity ≡ some f64_one
+  pub selectivity_lower : lower_bound x.selectivity ≡ Some f64_zero
+  pub selectivity_upper : upper_bound x.selectivity ≡ Some f64_one
   pub equivalence_classes : Each ClassInRange x.equivalence_classes
   pub match_probability : BoundedInUnit x.match_probability
-  pub match_lower : lower_bound x.match_probability ≡ some f64_zero
+  pub match_lower : lower_bound x.match_probability ≡ Some f64_zero
   pub left_equality_coverages : Each CoverageInRange x.left_equality_coverages
   pub residual_selectivity : Unit01 x.residual_selectivity

@@ -7,15 +7,12 @@ use borrow.Author.Tests.{le-leb}
 use lib.ListN.{length, take, length-take}
 use Rattle.le.specs.Fields.{onto}
 use Rattle.le.proofs.OntoLaws.{onto_length}
-use Rattle.sheet.specs.Check.{check}
+use Rattle.sheet.specs.Check.{Checked, Refused as SheetRefused, Accepted, check}
 use Rattle.sheet.specs.Sheet.{sheet_in, sheet_of, conjuncts_in, conjuncts_of}
 use Rattle.sheet.specs.declared.Sections.{Sections}
-use Rattle.sheet.specs.declared.Checked.{Checked}
-use Rattle.sheet.specs.declared.Checked.TheVariants.{Refused as SheetRefused, Accepted}
 use Rattle.sheet.proofs.AcceptedLaws.{accepted}
 use Rattle.join.specs.Join.{join_selectivity_from_conjuncts}
-use Rattle.answers.specs.Answers.{Result, refusal, bytes, answered, leaves, Comes, sheet_result}
-use Rattle.answers.specs.declared.Answer.TheVariants.{Refused, Written}
+use Rattle.answers.specs.Answers.{Refused, Written, Result, refusal, bytes, answered, leaves, Comes, sheet_result}
 use Rattle.layout.specs.Places.{longest_join}
 use Rattle.join_answer.specs.Join.{join_bytes, join_result}
 use Rattle.join_parts.proofs.ConjunctLaws.{accepted_conjuncts}

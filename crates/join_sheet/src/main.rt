@@ -8,7 +8,6 @@ ghost use Rattle.le.specs.Fields.{onto};
 ghost use Rattle.join_answer.specs.Join.{join_result};
 ghost use Rattle.join_sheet.specs.Reply.{reply_bytes};
 
-use answers::Answer;
 use std::io;
 use std::io::Read;
 
@@ -27,13 +26,12 @@ fn put_reply(sheet: &[u8], out: &mut [u8]) -> usize
     ensures out_after { out.new ≡ onto (reply_bytes (join_result sheet.now)) out.old }
     ensures prefix_len { (result ≤ length out.new) × (length (take result out.new) ≡ result) }
 {
-    let answer = estimates::join(sheet, out);
-    match answer {
-        Answer::Refused(n) => {
-            put_refusal(out, n);
+    match estimates::join(sheet, out) {
+        Ok(n) => n,
+        Err(refusal) => {
+            put_refusal(out, refusal.number());
             2
         }
-        Answer::Written(n) => n,
     }
 }
 

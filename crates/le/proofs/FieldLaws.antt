@@ -1,16 +1,18 @@
 -- Laws of little-endian fields, over the width n in bytes. Assumes nothing.
-use Prim.Native.Nat.{ℕ, zero, suc, ◌+◌, ◌-◌, ◌*◌, ◌/◌, ◌%◌, ◌^◌, ◌≤◌, ◌<◌}
+use Prim.Native.Nat.{ℕ, zero, suc, ◌+◌, ◌*◌, ◌/◌, ◌%◌, ◌^◌, ◌≤◌, ◌<◌}
 use mathlib.Core.Path.{◌≡◌, refl, sym, ap, ◌∙◌, subst}
-use mathlib.Core.Logic.{⊎_elim}
+use mathlib.Core.Logic.{⊎_elim, inl, inr}
 use mathlib.Core.Bool.{Bool, true, false, ◌&&◌}
 use mathlib.Core.List.{List, [], ◌∷◌, ◌++◌, append_assoc}
 use native.Mathlib.Omega.{arith}
-use native.Mathlib.Nat.{mul-le-mul_left, mul-le-mul_right, one-le-pow, not-suc-le-zero, pow-le-pow_right, pow-suc, pow-succ', mul_assoc, mul_comm, add-mul, suc-mul, eq-or-lt_of_le, add-zero, zero-add, add-suc, suc-add}
+use native.Mathlib.Nat.{mul-le-mul_right, one-le-pow, pow-suc, mul_assoc, mul_comm, add-mul, suc-mul, eq-or-lt_of_le, add-zero, zero-add, add-suc, suc-add, div-one, div-div-eq-div-mul}
 use lib.Dec.{eqb, ltb}
 use borrow.Author.Tests.{eq-eqb, ne_eqb, eqb-true, eqb-false, ltb-true, ltb-false}
 use lib.ListN.{length, take, drop, length-append}
 use lib.Seq.{get_or-drop, drop-cons, drop-drop, drop_at, take-add}
 use lib.Pow.{pow-add}
+use Rattle.std.specs.Int.{byte_at as byte_of, byte_worth, bytes_low_first, sum_through}
+use Rattle.std.specs.List.{slice_index}
 use Rattle.le.specs.Fields.{byte_at, field_at, field_bytes}
 
 -- every byte is one
@@ -62,34 +64,25 @@ field_drop (suc n) k s at =
     let b : byte_at (drop k s) (at + n) ≡ byte_at s (k + at + n) = get_or-drop k s (at + n) 0 ∙ ap (byte_at s) (omega arith) in
     ap (λ (x : ℕ). x + byte_at (drop k s) (at + n) * 256 ^ n) (field_drop n k s at) ∙ ap (λ (x : ℕ). field_at n s (k + at) + x * 256 ^ n) b
 
--- one byte more of a field that is read from its last byte on: v is what the bytes from i on give
-field_next : (n : ℕ) (s : List ℕ) (at v i : ℕ) → field_at n s at ≡ field_at (suc i) s at + v * 256 ^ suc i → field_at n s at ≡ field_at i s at + (v * 256 + byte_at s (at + i)) * 256 ^ i
+-- what std's `from_le_bytes` gives of n + 1 bytes that are those from a place on
+read_le : (n : ℕ) (bytes s : List ℕ) (at : ℕ) → ((i : ℕ) → i < suc n → slice_index bytes i ≡ byte_at s (at + i)) → sum_through (λ i. byte_worth i (slice_index bytes i)) n ≡ field_at (suc n) s at
 unfolding field_at
-field_next n s at v i e =
-    let p : v * 256 ^ suc i ≡ v * 256 * 256 ^ i = ap (λ (x : ℕ). v * x) (pow-succ' 256 i) ∙ sym (mul_assoc v 256 (256 ^ i)) in
-    let d : (v * 256 + byte_at s (at + i)) * 256 ^ i ≡ v * 256 * 256 ^ i + byte_at s (at + i) * 256 ^ i = add-mul (v * 256) (byte_at s (at + i)) (256 ^ i) in
-    omega arith
+read_le zero bytes s at h = omega (arith, h 0 (omega arith))
+read_le (suc n) bytes s at h = omega (arith, read_le n bytes s at (λ i k. h i (omega arith)), ap (λ (b : ℕ). b * 256 ^ suc n) (h (suc n) (omega arith)))
 
-pub field_step : (n : ℕ) (s : List ℕ) (at v i : ℕ) → 1 ≤ i → field_at n s at ≡ field_at i s at + v * 256 ^ i
-    → field_at n s at ≡ field_at (i - 1) s at + (v * 256 + byte_at s (at + (i - 1))) * 256 ^ (i - 1)
-field_step n s at v i h e =
-    let q : i ≡ suc (i - 1) = omega arith in
-    field_next n s at v (i - 1) (subst (λ (k : ℕ). field_at n s at ≡ field_at k s at + v * 256 ^ k) q e)
-
--- no byte is left
-pub field_read : (n : ℕ) (s : List ℕ) (at v i : ℕ) → i ≤ 0 → field_at n s at ≡ field_at i s at + v * 256 ^ i → v ≡ field_at n s at
+-- the same of bytes that are those from a place on below k, and 0 from k on
+pub read_cut : (n k : ℕ) (bytes s : List ℕ) (at : ℕ) → k ≤ suc n → ((i : ℕ) → i < k → slice_index bytes i ≡ byte_at s (at + i)) → ((i : ℕ) → k ≤ i → i < suc n → slice_index bytes i ≡ 0)
+    → sum_through (λ i. byte_worth i (slice_index bytes i)) n ≡ field_at k s at
 unfolding field_at
-field_read n s at v zero h e = omega arith
-field_read n s at v (suc i) h e = absurd (not-suc-le-zero h)
-
--- what is read stays below the whole
-pub field_within : (n : ℕ) (s : List ℕ) (at v i : ℕ) → Bytes s → n ≤ 8 → field_at n s at ≡ field_at i s at + v * 256 ^ i → v < 2 ^ 64
-field_within n s at v i h k e =
-    let b : field_at n s at < 256 ^ n = field_below n s at h in
-    let w : 256 ^ n ≤ 256 ^ 8 = pow-le-pow_right (omega arith) k in
-    let o : 1 ≤ 256 ^ i = one-le-pow i 256 (omega arith) in
-    let m : v * 1 ≤ v * 256 ^ i = mul-le-mul_left v o in
-    omega arith
+read_cut zero zero bytes s at p h z = z 0 (omega arith) (omega arith)
+read_cut zero (suc k) bytes s at p h z = let e : k ≡ 0 = omega arith in rw e (read_le zero bytes s at (λ i q. h i (omega arith)))
+read_cut (suc n) k bytes s at p h z = elim (eq-or-lt_of_le p) [
+  | inl e ↦ rw e (read_le (suc n) bytes s at (λ i q. h i (omega arith)))
+  | inr l ↦
+      let i = read_cut n k bytes s at (omega arith) h (λ i q r. z i q (omega arith)) in
+      let b = z (suc n) (omega arith) (omega arith) in
+      rw b (omega arith)
+]
 
 -- ---- zeros
 
@@ -152,6 +145,21 @@ unfolding field_bytes
 bytes_length zero v = refl
 bytes_length (suc n) v = ap suc (bytes_length n (v / 256))
 
+-- the bytes that std's `to_le_bytes` gives, from byte i on
+bytes_from : (i n v : ℕ) → bytes_low_first i n v ≡ field_bytes n (v / 256 ^ i)
+unfolding field_bytes
+bytes_from i zero v = refl
+bytes_from i (suc n) v =
+    let q : v / 256 ^ suc i ≡ v / 256 ^ i / 256 = ap (λ (x : ℕ). v / x) (pow-suc 256 i) ∙ sym (div-div-eq-div-mul v (256 ^ i) 256) in
+    rw (first i, bytes_from (suc i) n v, q) refl
+  where
+    first : (i : ℕ) → byte_of i v ≡ v / 256 ^ i % 256
+    first zero = omega arith
+    first (suc i) = refl
+
+pub bytes_le : (n v : ℕ) → field_bytes n v ≡ bytes_low_first 0 n v
+bytes_le n v = ap (field_bytes n) (sym (div-one v)) ∙ sym (bytes_from 0 n v)
+
 pub field_back : (n v : ℕ) (t : List ℕ) → v < 256 ^ n → field_at n (field_bytes n v ++ t) 0 ≡ v
 unfolding field_at field_bytes
 field_back zero v t h = omega arith
@@ -171,15 +179,11 @@ bytes_back (suc n) s at h k =
     let hi : field_at (suc n) s at / 256 ≡ field_at n s (suc at) = omega arith in
     rw (lo, hi, drop-cons s at 0 (omega arith), bytes_back n s (suc at) h (omega arith)) refl
 
--- ---- one byte and two
+-- ---- one byte
 
 pub u8_sum : (s : List ℕ) (at : ℕ) → field_at 1 s at ≡ byte_at s at
 unfolding field_at
 u8_sum s at = let b : byte_at s (at + 0) ≡ byte_at s at = ap (byte_at s) (add-zero at) in omega arith
-
-pub u16_sum : (s : List ℕ) (at : ℕ) → field_at 2 s at ≡ byte_at s at + byte_at s (at + 1) * 256
-unfolding field_at
-u16_sum s at = let b : byte_at s (at + 0) ≡ byte_at s at = ap (byte_at s) (add-zero at) in omega arith
 
 -- ---- a field found where its bytes stand
 

@@ -1,4 +1,5 @@
-// Signed fields.
+// Signed fields. Each is one line over the unsigned one: a generic function would need a trait that
+// holds the same lines.
 ghost use Rattle.std.specs.Prelude.{◌≡◌, ◌≤◌, length};
 ghost use Rattle.le.specs.Fields.{onto};
 ghost use Rattle.le.specs.Integers.{i32_at, i64_at, i32_bytes, i64_bytes};

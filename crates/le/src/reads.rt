@@ -1,115 +1,107 @@
 // Fields read at any place.
-ghost use Rattle.std.specs.Prelude.{◌≡◌, ◌+◌, ◌-◌, ◌≤◌, ◌<◌, ◌^◌, leb, length};
-ghost use Rattle.le.specs.Fields.{byte_at, field_at, u16_at, u32_at, u64_at};
+#![tactic(auto, unfolding(crate::specs::Fields::field_at))]
 
-fn wide(b: u8) -> u64
-    ensures { (result ≡ b) × (result < 256) }
-{
-    b as u64
-}
+ghost use Rattle.std.specs.Prelude.{◌≡◌, ℕ, ◌+◌, ◌-◌, ◌≤◌, ◌<◌, ◌^◌, leb, length, slice_index};
+ghost use Rattle.le.specs.Fields.{byte_at, field_at, u16_at, u32_at, u64_at};
 
 pub fn byte_at(s: &[u8], at: usize) -> u8
     ensures { result ≡ byte_at s.now at }
 {
-    if at < s.len() { s[at] } else { 0 }
-}
-
-// The byte i behind the place, where at + i need not fit a usize.
-fn byte_behind(s: &[u8], at: usize, i: usize) -> u64
-    ensures { result ≡ byte_at s.now (at + i) }
-{
-    if s.len() <= at {
-        return 0;
-    }
-    if s.len() - at <= i {
-        return 0;
-    }
-    wide(s[at + i])
-}
-
-// The number of n bytes, byte by byte: for fields that the end may cut.
-fn field_at(s: &[u8], at: usize, n: usize) -> u64
-    requires { n ≤ 8 }
-    ensures { result ≡ field_at n s.now at }
-{
-    let mut v = 0u64;
-    let mut i = n;
-    while i > 0 {
-        i -= 1;
-        v = v * 256 + byte_behind(s, at, i);
-    }
-    v
+    s.get(at).copied().unwrap_or(0)
 }
 
 // How many bytes stand from the place on.
 pub fn left(s: &[u8], at: usize) -> usize
     ensures { result ≡ length s.now - at }
 {
-    if at <= s.len() { s.len() - at } else { 0 }
+    s.len().saturating_sub(at)
 }
 
 // The place n bytes before, 0 where there is none.
 pub fn before(at: usize, n: usize) -> usize
     ensures { result ≡ at - n }
 {
-    if n <= at { at - n } else { 0 }
+    at.saturating_sub(n)
 }
 
-// Two bytes that are there, four, and eight.
-fn pair_at(s: &[u8], at: usize) -> u64
-    requires { at + 2 ≤ length s.now }
-    ensures { (result ≡ u16_at s.now at) × (result < 2 ^ 16) }
+// Whether n bytes stand from the place on.
+fn has(s: &[u8], at: usize, n: usize) -> bool
+    ensures { result ≡ leb (at + n) (length s.now) }
 {
-    wide(s[at]) + wide(s[at + 1]) * 256
+    n <= s.len() && at <= s.len() - n
 }
 
+// N bytes that are there.
+fn bytes_at<const N: usize>(s: &[u8], at: usize) -> [u8; N]
+    requires { at + N ≤ length s.now }
+    ensures { (i : ℕ) → i < N → slice_index result i ≡ byte_at s.now (at + i) }
+{
+    let mut bytes = [0; N];
+    bytes.copy_from_slice(&s[at..at + N]);
+    bytes
+}
+
+// The bytes, and zeros behind them.
+fn padded(bytes: &[u8]) -> [u8; 8]
+    requires { length bytes.now ≤ 8 }
+    ensures { (i : ℕ) → slice_index result i ≡ byte_at bytes.now i }
+{
+    let mut word = [0; 8];
+    word[..bytes.len()].copy_from_slice(bytes);
+    word
+}
+
+// The number of n bytes that the end may cut. What is not there counts as 0.
+#[cold]
+#[inline(never)]
+fn cut_at(s: &[u8], at: usize, n: usize) -> u64
+    requires { n ≤ 8 }
+    ensures { result ≡ field_at n s.now at }
+{
+    let rest = s.get(at..).unwrap_or(&[]);
+    u64::from_le_bytes(padded(&rest[..n.min(rest.len())]))
+}
+
+// Four bytes that are there, and eight.
 pub fn quad_at(s: &[u8], at: usize) -> u64
     requires { at + 4 ≤ length s.now }
     ensures { (result ≡ u32_at s.now at) × (result < 2 ^ 32) }
 {
-    pair_at(s, at) + pair_at(s, at + 2) * 0x1_0000
+    u64::from(u32::from_le_bytes(bytes_at(s, at)))
 }
 
 pub fn word_at(s: &[u8], at: usize) -> u64
     requires { at + 8 ≤ length s.now }
     ensures { result ≡ u64_at s.now at }
 {
-    quad_at(s, at) + quad_at(s, at + 4) * 0x1_0000_0000
+    u64::from_le_bytes(bytes_at(s, at))
 }
 
-// Whether two bytes stand from the place on.
-fn has_pair(s: &[u8], at: usize) -> bool
-    ensures { result ≡ leb (at + 2) (length s.now) }
-{
-    if 2 <= s.len() {
-        return at <= s.len() - 2;
-    }
-    false
-}
-
+// One generic reader for the three, by arrays of N bytes that the end may cut, was tried: it makes
+// the loops round `u16_at` slower.
 pub fn u16_at(s: &[u8], at: usize) -> u16
     ensures { result ≡ u16_at s.now at }
 {
-    if has_pair(s, at) {
-        return pair_at(s, at) as u16;
+    if has(s, at, 2) {
+        return u16::from_le_bytes(bytes_at(s, at));
     }
-    byte_at(s, at) as u16
+    u16::from(byte_at(s, at))
 }
 
 pub fn u32_at(s: &[u8], at: usize) -> u32
     ensures { result ≡ u32_at s.now at }
 {
-    if 4 <= left(s, at) {
-        return quad_at(s, at) as u32;
+    if has(s, at, 4) {
+        return u32::from_le_bytes(bytes_at(s, at));
     }
-    field_at(s, at, 4) as u32
+    cut_at(s, at, 4) as u32
 }
 
 pub fn u64_at(s: &[u8], at: usize) -> u64
     ensures { result ≡ u64_at s.now at }
 {
-    if 8 <= left(s, at) {
-        return word_at(s, at);
+    if has(s, at, 8) {
+        return u64::from_le_bytes(bytes_at(s, at));
     }
-    field_at(s, at, 8)
+    cut_at(s, at, 8)
 }

@@ -5,9 +5,11 @@ use mathlib.Core.Bool.{Bool, true, false, cond}
 use mathlib.Core.List.{List, ◌∷◌}
 use native.Mathlib.Omega.{arith}
 use native.Mathlib.Nat.{add-zero, zero-add, sub-zero}
-use borrow.Author.Tests.{eq-eqb, ne_eqb, ltb-true, ltb-false}
+use borrow.Author.Tests.{ltb-true, ltb-false}
 use lib.Dec.{eqb, ltb}
 use lib.Ieee.{Float}
+use Rattle.std.specs.Prelude.{Option, None, Some, option_map}
+use Rattle.std.specs.Option.{option_or}
 use lib.ListN.{length, take, drop, get_or-eq_default}
 use Rattle.le.specs.Fields.{byte_at, u16_at}
 use Rattle.layout.specs.Places.{number_size, column_size, expression_size, expression_op_offset, expression_first_offset, expression_second_offset, expression_scalar_offset}
@@ -24,8 +26,10 @@ use Rattle.sheet.specs.declared.Sections.{Sections}
 use Rattle.sheet.specs.declared.order.Kind.TheVariants.{Columns, Expressions, Operands}
 use Rattle.sheet.proofs.PlaceLaws.{columns_fixed, expressions_fixed, operands_fixed, fixed_place}
 use Rattle.sheet.proofs.SheetLaws.{records_length, fixed_record_at}
-use Rattle.scan.proofs.ScanLaws.{placed_is}
-use Rattle.lookup.specs.Lookup.{Absent, expression_of, operand_in, operands_of, column_of, beside_rows, profile_in, or_else_profile, left_profile, right_profile, profile_and_rows, placed_profile, column_place, profile_place, expression_kind}
+use Rattle.scan.proofs.ScanLaws.{placed, placed_is}
+use Rattle.lookup.specs.Lookup.{expression_of, operand_in, operands_of, column_of, beside_rows, profile_in, left_profile, right_profile, profile_and_rows, placed_profile, column_place, place_beside, profile_place, kind_of, expression_kind}
+use Rattle.lookup.specs.declared.numbers.ExpressionKind.{ExpressionKind}
+use Rattle.lookup.specs.declared.numbers.ExpressionKind.TheVariants.{Literal as LiteralKind, ColumnRef as ColumnRefKind, Unary as UnaryKind, Binary as BinaryKind, Nary as NaryKind, Like as LikeKind, Other as OtherKind}
 use Rattle.lookup.specs.declared.profiles.ProfilePlace.{ProfilePlace}
 
 -- ---- expressions
@@ -103,68 +107,89 @@ front : (s : List ℕ) (at : ℕ) → (column_profile_at s at).column ≡ u16_at
 unfolding column_profile_at
 front s at = refl
 
-placed_in : (s : List ℕ) (start column : ℕ) (rows : Float) → placed_profile s (column_place s start column) rows ≡ profile_in rows column (records_in Columns column_profile_at s start)
-placed_in s start column rows = placed_is Columns column_profile_at column_size columns_fixed column_of front Absent (beside_rows rows) s start column
+placed_in : (s : List ℕ) (start column : ℕ) (rows : Float) → option_map (placed_profile s) (option_map (place_beside rows) (column_place s start column)) ≡ profile_in rows column (records_in Columns column_profile_at s start)
+placed_in s start column rows = go (column_place s start column) ∙ placed_is Columns column_profile_at column_size columns_fixed column_of front None (beside_rows rows) s start column
+  where
+    go : (o : Option ℕ) → option_map (placed_profile s) (option_map (place_beside rows) o) ≡ placed Columns column_profile_at column_size columns_fixed column_of front None (beside_rows rows) s o
+    go None = refl
+    go (Some at) = refl
 
-module _ (s : List ℕ) (q : Sections) (column at : ℕ) (rows : Float) where
-  pub left_is : at ≡ column_place s q.left_columns column → rows ≡ (sheet_of s q).left_rows.value → placed_profile s at rows ≡ left_profile (sheet_of s q) column
-  unfolding sheet_of
-  left_is f e = (λ k. placed_profile s (f k) (e k)) ∙ placed_in s q.left_columns column (sheet_of s q).left_rows.value
-
-  pub right_is : at ≡ column_place s q.right_columns column → rows ≡ (sheet_of s q).right_rows.value → placed_profile s at rows ≡ right_profile (sheet_of s q) column
-  unfolding sheet_of
-  right_is f e = (λ k. placed_profile s (f k) (e k)) ∙ placed_in s q.right_columns column (sheet_of s q).right_rows.value
-
--- the left side's profile, and the right side's where there is none
 module _ (s : List ℕ) (q : Sections) (column : ℕ) where
-  pub place_left : (at : ℕ) (rows : Float) → at ≡ column_place s q.left_columns column → (at ≡ 0 → ⊥) → rows ≡ (sheet_of s q).left_rows.value → record { at = at; rows = rows } ≡ profile_place s q column
-  unfolding profile_place
-  place_left at rows f ne e = rw (← f, ne_eqb at 0 ne, e) refl
+  pub left_is : option_map (placed_profile s) (option_map (place_beside (sheet_of s q).left_rows.value) (column_place s q.left_columns column)) ≡ left_profile (sheet_of s q) column
+  unfolding sheet_of
+  left_is = placed_in s q.left_columns column (sheet_of s q).left_rows.value
 
-  pub place_right : (left at : ℕ) (rows : Float) → left ≡ column_place s q.left_columns column → left ≡ 0 → at ≡ column_place s q.right_columns column → rows ≡ (sheet_of s q).right_rows.value → record { at = at; rows = rows } ≡ profile_place s q column
-  unfolding profile_place
-  place_right left at rows f z g e = rw (← f, eq-eqb left 0 z, g, e) refl
+  pub right_is : option_map (placed_profile s) (option_map (place_beside (sheet_of s q).right_rows.value) (column_place s q.right_columns column)) ≡ right_profile (sheet_of s q) column
+  unfolding sheet_of
+  right_is = placed_in s q.right_columns column (sheet_of s q).right_rows.value
 
-  pub placed_profile_law : (place : ProfilePlace) → place ≡ profile_place s q column → placed_profile s place.at place.rows ≡ profile_and_rows (sheet_of s q) column
+  -- the left side's profile, and the right side's where there is none
+  pub place_left : (at : ℕ) (rows : Float) → Some at ≡ column_place s q.left_columns column → rows ≡ (sheet_of s q).left_rows.value → Some (record { at = at; rows = rows }) ≡ profile_place s q column
+  unfolding profile_place
+  place_left at rows f e = rw (← f, e) refl
+
+  pub place_right : (at : ℕ) (rows : Float) → None ≡ column_place s q.left_columns column → Some at ≡ column_place s q.right_columns column → rows ≡ (sheet_of s q).right_rows.value → Some (record { at = at; rows = rows }) ≡ profile_place s q column
+  unfolding profile_place
+  place_right at rows f g e = rw (← f, ← g, e) refl
+
+  pub place_none : None ≡ column_place s q.left_columns column → None ≡ column_place s q.right_columns column → None ≡ profile_place s q column
+  unfolding profile_place
+  place_none f g = rw (← f, ← g) refl
+
+  pub placed_profile_law : (place : Option ProfilePlace) → place ≡ profile_place s q column → option_map (placed_profile s) place ≡ profile_and_rows (sheet_of s q) column
   unfolding profile_place profile_and_rows
-  placed_profile_law place is = ap (λ (p : ProfilePlace). placed_profile s p.at p.rows) is ∙ go (column_place s q.left_columns column) (eqb (column_place s q.left_columns column) 0) refl refl
+  placed_profile_law place is = ap (option_map (placed_profile s)) is ∙ go (option_map (place_beside (sheet_of s q).left_rows.value) (column_place s q.left_columns column)) _ ∙ (λ k. option_or (left_is k) (right_is k))
     where
-      chosen : ℕ → Bool → ProfilePlace
-      chosen left none = cond none (record { at = column_place s q.right_columns column; rows = (sheet_of s q).right_rows.value }) (record { at = left; rows = (sheet_of s q).left_rows.value })
-
-      go : (left : ℕ) (none : Bool) → left ≡ column_place s q.left_columns column → eqb left 0 ≡ none → placed_profile s (chosen left none).at (chosen left none).rows ≡ or_else_profile (left_profile (sheet_of s q) column) (right_profile (sheet_of s q) column)
-      go left true f z = rw (← left_is s q column left (sheet_of s q).left_rows.value f refl, z) (right_is s q column _ _ refl refl)
-      go left false f z = rw (← left_is s q column left (sheet_of s q).left_rows.value f refl, z) refl
+      go : (a b : Option ProfilePlace) → option_map (placed_profile s) (option_or a b) ≡ option_or (option_map (placed_profile s) a) (option_map (placed_profile s) b)
+      go None b = refl
+      go (Some p) b = refl
 
 -- ---- expressions by their kinds
 
--- what stands at a place, if this is its kind: the kinds of document 01
-abbrev pub of_kind : List ℕ → ℕ → ℕ → Expression
-of_kind s at kind =
-    cond (eqb kind 0) (Literal (scalar_at s (at + expression_scalar_offset)))
-    (cond (eqb kind 1) (ColumnRef (u16_at s (at + expression_first_offset)))
-    (cond (eqb kind 2) (Unary (unary_op (byte_at s (at + expression_op_offset))) (u16_at s (at + expression_first_offset)))
-    (cond (eqb kind 3) (Binary (binary_op (byte_at s (at + expression_op_offset))) (u16_at s (at + expression_first_offset)) (u16_at s (at + expression_second_offset)))
-    (cond (eqb kind 4) (Nary (nary_op (byte_at s (at + expression_op_offset))) (u16_at s (at + expression_first_offset)) (u16_at s (at + expression_second_offset)))
-    (cond (eqb kind 5) Like Other)))))
+-- what stands at a place, if this is its kind
+abbrev pub of_kind : List ℕ → ℕ → ExpressionKind → Expression
+of_kind s at LiteralKind = Literal (scalar_at s (at + expression_scalar_offset))
+of_kind s at ColumnRefKind = ColumnRef (u16_at s (at + expression_first_offset))
+of_kind s at UnaryKind = Unary (unary_op (byte_at s (at + expression_op_offset))) (u16_at s (at + expression_first_offset))
+of_kind s at BinaryKind = Binary (binary_op (byte_at s (at + expression_op_offset))) (u16_at s (at + expression_first_offset)) (u16_at s (at + expression_second_offset))
+of_kind s at NaryKind = Nary (nary_op (byte_at s (at + expression_op_offset))) (u16_at s (at + expression_first_offset)) (u16_at s (at + expression_second_offset))
+of_kind s at LikeKind = Like
+of_kind s at OtherKind = Other
+
+kind_read : (s : List ℕ) (at : ℕ) → expression_at s at ≡ of_kind s at (kind_of (byte_at s at))
+unfolding expression_at
+kind_read s at = go (eqb (byte_at s at) 0) (eqb (byte_at s at) 1) (eqb (byte_at s at) 2) (eqb (byte_at s at) 3) (eqb (byte_at s at) 4) (eqb (byte_at s at) 5)
+  where
+    x : ExpressionKind → Expression
+    x kind = of_kind s at kind
+
+    go : (a b c d e f : Bool)
+        → cond a (x LiteralKind) (cond b (x ColumnRefKind) (cond c (x UnaryKind) (cond d (x BinaryKind) (cond e (x NaryKind) (cond f Like Other)))))
+        ≡ x (cond a LiteralKind (cond b ColumnRefKind (cond c UnaryKind (cond d BinaryKind (cond e NaryKind (cond f LikeKind OtherKind))))))
+    go true b c d e f = refl
+    go false true c d e f = refl
+    go false false true d e f = refl
+    go false false false true e f = refl
+    go false false false false true f = refl
+    go false false false false false true = refl
+    go false false false false false false = refl
 
 pub expression_of_kind : (s : List ℕ) (q : Sections) (e : ℕ) → expression_of (sheet_of s q) e ≡ of_kind s (expression_place q.expressions e) (expression_kind s q e)
-unfolding expression_at
 expression_of_kind s q e = go (ltb e (u16_at s q.expressions)) refl
   where
     at : ℕ
     at = expression_place q.expressions e
 
-    go : (b : Bool) → ltb e (u16_at s q.expressions) ≡ b → expression_of (sheet_of s q) e ≡ of_kind s at (cond b (byte_at s at) 6)
+    go : (b : Bool) → ltb e (u16_at s q.expressions) ≡ b → expression_of (sheet_of s q) e ≡ of_kind s at (cond b (kind_of (byte_at s at)) OtherKind)
     go true h =
         let below = ltb-true e (u16_at s q.expressions) h in
         let l = expressions_length s q in
-        sym (expression_found s q e (omega arith))
+        sym (expression_found s q e (omega arith)) ∙ kind_read s at
     go false h =
         let past = ltb-false e (u16_at s q.expressions) h in
         let l = expressions_length s q in
         sym (expression_missing s q e (omega arith))
 
 -- and so for a kind that is told
-pub expression_is : (s : List ℕ) (q : Sections) (e kind : ℕ) → expression_kind s q e ≡ kind → expression_of (sheet_of s q) e ≡ of_kind s (expression_place q.expressions e) kind
+pub expression_is : (s : List ℕ) (q : Sections) (e : ℕ) (kind : ExpressionKind) → expression_kind s q e ≡ kind → expression_of (sheet_of s q) e ≡ of_kind s (expression_place q.expressions e) kind
 expression_is s q e kind h = expression_of_kind s q e ∙ ap (of_kind s (expression_place q.expressions e)) h

@@ -1,5 +1,6 @@
 -- What a figure looks up in a sheet. Definitions only.
-use Rattle.std.specs.Prelude.{ℕ, ◌+◌, ◌*◌, cond, List, eqb, ltb, get_or, take, drop, Float}
+use Rattle.std.specs.Prelude.{ℕ, ◌+◌, ◌*◌, cond, List, eqb, ltb, get_or, take, drop, Float, Option, None, Some, option_map}
+use Rattle.std.specs.Option.{option_or}
 use Rattle.le.specs.Fields.{byte_at, u16_at}
 use Rattle.layout.specs.Places.{column_limit, count_size, number_size, column_size}
 use Rattle.records.specs.Lists.{tabulate}
@@ -11,6 +12,8 @@ use Rattle.expression_rules.specs.Operands.{expression_place}
 use Rattle.sheet.specs.Sheet.{Sheet, sheet_of}
 use Rattle.sheet.specs.declared.Sections.{Sections}
 use Rattle.scan.specs.Scan.{first_with, place_from, first_place}
+use Rattle.lookup.specs.declared.numbers.ExpressionKind.{ExpressionKind}
+use Rattle.lookup.specs.declared.numbers.ExpressionKind.TheVariants.{Literal as LiteralKind, ColumnRef as ColumnRefKind, Unary as UnaryKind, Binary as BinaryKind, Nary as NaryKind, Like as LikeKind, Other as OtherKind}
 use Rattle.lookup.specs.declared.profiles.ProfilePlace.{ProfilePlace}
 
 -- ---- expressions
@@ -29,58 +32,67 @@ operands_of sheet first count = take count (drop first sheet.operands)
 -- ---- columns
 
 -- the profile of a column, and the rows of the side that it stands on
-pub data ProfileAndRows : Type 0 where
-  Absent : ProfileAndRows
-  Present : ColumnProfile → Float → ProfileAndRows
+abbrev pub ProfileAndRows : Type 0
+ProfileAndRows = ColumnProfile × Float
 
 abbrev pub column_of : ColumnProfile → ℕ
 column_of p = p.column
 
-abbrev pub beside_rows : Float → ColumnProfile → ProfileAndRows
-beside_rows rows p = Present p rows
+abbrev pub beside_rows : Float → ColumnProfile → Option ProfileAndRows
+beside_rows rows p = Some (p, rows)
 
 -- a column's profile in one side's list, beside that side's rows
-abbrev pub profile_in : Float → ℕ → List ColumnProfile → ProfileAndRows
-profile_in rows column profiles = first_with column_of Absent (beside_rows rows) column profiles
-
-abbrev pub or_else_profile : ProfileAndRows → ProfileAndRows → ProfileAndRows
-or_else_profile Absent other = other
-or_else_profile (Present p rows) other = Present p rows
+abbrev pub profile_in : Float → ℕ → List ColumnProfile → Option ProfileAndRows
+profile_in rows column profiles = first_with column_of None (beside_rows rows) column profiles
 
 -- of the left side, and of the right
-abbrev pub left_profile : Sheet → ℕ → ProfileAndRows
+abbrev pub left_profile : Sheet → ℕ → Option ProfileAndRows
 left_profile sheet column = profile_in sheet.left_rows.value column sheet.left_columns
 
-abbrev pub right_profile : Sheet → ℕ → ProfileAndRows
+abbrev pub right_profile : Sheet → ℕ → Option ProfileAndRows
 right_profile sheet column = profile_in sheet.right_rows.value column sheet.right_columns
 
 -- the left side's before the right side's
-unfoldable pub profile_and_rows : Sheet → ℕ → ProfileAndRows
+unfoldable pub profile_and_rows : Sheet → ℕ → Option ProfileAndRows
 unfolding first_with
-profile_and_rows sheet column = or_else_profile (left_profile sheet column) (right_profile sheet column)
+profile_and_rows sheet column = option_or (left_profile sheet column) (right_profile sheet column)
 
 -- ---- by where they stand in the bytes
 
--- the profile that a place stands for: at 0, where the rows' count is, there is none
-abbrev pub placed_profile : List ℕ → ℕ → Float → ProfileAndRows
-placed_profile s at rows = cond (eqb at 0) Absent (Present (column_profile_at s at) rows)
+-- the profile that a place stands for
+abbrev pub placed_profile : List ℕ → ProfilePlace → ProfileAndRows
+placed_profile s place = (column_profile_at s place.at, place.rows)
 
 -- in the list of a side whose count stands at `start`
-abbrev pub column_place : List ℕ → ℕ → ℕ → ℕ
+abbrev pub column_place : List ℕ → ℕ → ℕ → Option ℕ
 column_place s start column = first_place s start column_size column
 
 -- of every column
-abbrev pub column_places : List ℕ → ℕ → List ℕ
+abbrev pub column_places : List ℕ → ℕ → List (Option ℕ)
 column_places s start = tabulate (column_place s start) column_limit
 
--- the left side's before the right side's; the right side's rows stand beside a 0 too
-unfoldable pub profile_place : List ℕ → Sections → ℕ → ProfilePlace
+abbrev pub place_beside : Float → ℕ → ProfilePlace
+place_beside rows at = record { at = at; rows = rows }
+
+-- the left side's before the right side's
+unfoldable pub profile_place : List ℕ → Sections → ℕ → Option ProfilePlace
 unfolding place_from sheet_of
 profile_place s q column =
-    cond (eqb (column_place s q.left_columns column) 0)
-    (record { at = column_place s q.right_columns column; rows = (sheet_of s q).right_rows.value })
-    (record { at = column_place s q.left_columns column; rows = (sheet_of s q).left_rows.value })
+    option_or (option_map (place_beside (sheet_of s q).left_rows.value) (column_place s q.left_columns column))
+    (option_map (place_beside (sheet_of s q).right_rows.value) (column_place s q.right_columns column))
 
--- the byte that tells an expression's kind; where there is no such expression, that of any other one
-abbrev pub expression_kind : List ℕ → Sections → ℕ → ℕ
-expression_kind s q e = cond (ltb e (u16_at s q.expressions)) (byte_at s (expression_place q.expressions e)) 6
+-- ---- what an expression is, without its fields
+
+-- as its first byte tells it
+abbrev pub kind_of : ℕ → ExpressionKind
+kind_of byte =
+    cond (eqb byte 0) LiteralKind
+    (cond (eqb byte 1) ColumnRefKind
+    (cond (eqb byte 2) UnaryKind
+    (cond (eqb byte 3) BinaryKind
+    (cond (eqb byte 4) NaryKind
+    (cond (eqb byte 5) LikeKind OtherKind)))))
+
+-- where there is no such expression, any other one
+abbrev pub expression_kind : List ℕ → Sections → ℕ → ExpressionKind
+expression_kind s q e = cond (ltb e (u16_at s q.expressions)) (kind_of (byte_at s (expression_place q.expressions e))) OtherKind

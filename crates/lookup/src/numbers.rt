@@ -2,7 +2,7 @@
 ghost use Rattle.std.specs.Prelude.{◌≡◌, ◌+◌, ◌<◌, ◌^◌, min, length};
 ghost use Rattle.expression_rules.specs.Operands.{expression_place};
 ghost use Rattle.sheet.specs.Sheet.{sheet_of};
-ghost use Rattle.lookup.specs.Lookup.{expression_of, operand_in, expression_kind};
+ghost use Rattle.lookup.specs.Lookup.{expression_of, operand_in, kind_of, expression_kind};
 
 use layout::{COUNT_SIZE, EXPRESSION_SIZE, NUMBER_SIZE};
 use le::reads::{byte_at, u16_at};
@@ -31,14 +31,40 @@ pub fn expression_place(q: Sections, e: u16) -> usize
     q.expressions as usize + COUNT_SIZE + EXPRESSION_SIZE * e as usize
 }
 
-// The kind of an expression, as its byte tells it.
-pub fn expression_kind(s: &[u8], q: Sections, e: u16) -> u8
+// What an expression is, without its fields.
+#[derive(Clone, Copy)]
+pub enum ExpressionKind {
+    Literal,
+    ColumnRef,
+    Unary,
+    Binary,
+    Nary,
+    Like,
+    Other,
+}
+
+// As an expression's first byte tells it.
+fn kind_of(byte: u8) -> ExpressionKind
+    ensures { result ≡ kind_of byte }
+{
+    match byte {
+        0 => ExpressionKind::Literal,
+        1 => ExpressionKind::ColumnRef,
+        2 => ExpressionKind::Unary,
+        3 => ExpressionKind::Binary,
+        4 => ExpressionKind::Nary,
+        5 => ExpressionKind::Like,
+        _ => ExpressionKind::Other,
+    }
+}
+
+pub fn expression_kind(s: &[u8], q: Sections, e: u16) -> ExpressionKind
     ensures { result ≡ expression_kind s.now q e }
 {
     if e < u16_at(s, q.expressions as usize) {
-        return byte_at(s, expression_place(q, e));
+        return kind_of(byte_at(s, expression_place(q, e)));
     }
-    6
+    ExpressionKind::Other
 }
 
 pub fn operand_count(s: &[u8], q: Sections) -> u16
@@ -52,8 +78,7 @@ pub fn run_end(s: &[u8], q: Sections, first: u16, count: u16) -> usize
     ensures { result ≡ min (first + count) (length (sheet_of s.now q).operands) }
 {
     let end = first as usize + count as usize;
-    let all = operand_count(s, q) as usize;
-    if end <= all { end } else { all }
+    end.min(operand_count(s, q) as usize)
 }
 
 pub fn operand_in(s: &[u8], q: Sections, i: usize) -> u16

@@ -8,30 +8,27 @@ use scan::first_place;
 
 // From the last profile to the first, so that the first of a column is the one that stays. The
 // columns' count stands at `start`.
-pub fn column_places(s: &[u8], start: u16) -> [u32; COLUMN_LIMIT]
+pub fn column_places(s: &[u8], start: u16) -> [Option<u32>; COLUMN_LIMIT]
     ensures { result ≡ column_places s.now start }
 {
-    let mut places = [0u32; COLUMN_LIMIT];
-    let mut i = u16_at(s, start as usize) as usize;
-    while i > 0 {
-        i -= 1;
+    let mut places = [None; COLUMN_LIMIT];
+    for i in (0..u16_at(s, start as usize) as usize).rev() {
         let at = start as usize + COUNT_SIZE + COLUMN_SIZE * i;
         let column = u16_at(s, at) as usize;
         if column < COLUMN_LIMIT {
-            places[column] = at as u32;
+            places[column] = Some(at as u32);
         }
     }
     places
 }
 
 // The place of any column, by the places that were noted.
-pub fn place_of(s: &[u8], start: u16, places: &[u32], column: u16) -> u32
+pub fn place_of(s: &[u8], start: u16, places: &[Option<u32>], column: u16) -> Option<u32>
     requires { places.now ≡ column_places s.now start }
     ensures { result ≡ column_place s.now start column }
 {
-    let i = column as usize;
-    if i < places.len() {
-        return places[i];
+    match places.get(column as usize) {
+        Some(place) => *place,
+        None => first_place(s, start, COLUMN_SIZE, column),
     }
-    first_place(s, start, COLUMN_SIZE, column)
 }

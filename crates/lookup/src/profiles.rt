@@ -1,8 +1,8 @@
 // Columns' profiles and the rows of the two sides.
-ghost use Rattle.std.specs.Prelude.{◌≡◌, ◌<◌, ◌^◌};
+ghost use Rattle.std.specs.Prelude.{◌≡◌, ◌<◌, ◌^◌, IfSome};
 ghost use Rattle.records.specs.Columns.{column_profile_at};
 ghost use Rattle.sheet.specs.Sheet.{sheet_of};
-ghost use Rattle.lookup.specs.Lookup.{column_place, profile_place};
+ghost use Rattle.lookup.specs.Lookup.{profile_place};
 
 use layout::{
     COLUMN_DISTINCT_OFFSET, COLUMN_FREQUENCY_OFFSET, COLUMN_SIZE, COUNT_SIZE, ESTIMATE_SIZE,
@@ -12,8 +12,7 @@ use le::floats::f64_at;
 use scan::first_place;
 use sheet::Sections;
 
-// Where the profile of a column stands in the sheet, 0 where there is none, and the rows of the side
-// that it stands on.
+// Where the profile of a column stands in the sheet, and the rows of the side that it stands on.
 #[derive(Clone, Copy)]
 pub struct ProfilePlace {
     pub at: usize,
@@ -33,28 +32,22 @@ pub fn right_rows(s: &[u8], q: Sections) -> f64
     f64_at(s, right + ESTIMATE_VALUE_OFFSET)
 }
 
-// Where the first profile of a column stands, 0 where there is none. The columns' count stands at
-// `start`.
-fn column_place(s: &[u8], start: u16, column: u16) -> usize
-    ensures { (result ≡ column_place s.now start column) × (result < 2 ^ 40) }
+// The left side's before the right side's.
+pub fn profile_place(s: &[u8], q: Sections, column: u16) -> Option<ProfilePlace>
+    ensures value { result ≡ profile_place s.now q column }
+    ensures within { IfSome result (λ place. place.at < 2 ^ 40) }
 {
-    first_place(s, start, COLUMN_SIZE, column) as usize
-}
-
-pub fn profile_place(s: &[u8], q: Sections, column: u16) -> ProfilePlace
-    ensures { (result ≡ profile_place s.now q column) × (result.at < 2 ^ 40) }
-{
-    let left = column_place(s, q.left_columns, column);
-    if left != 0 {
-        return ProfilePlace {
-            at: left,
+    if let Some(at) = first_place(s, q.left_columns, COLUMN_SIZE, column) {
+        return Some(ProfilePlace {
+            at: at as usize,
             rows: left_rows(s, q),
-        };
+        });
     }
-    ProfilePlace {
-        at: column_place(s, q.right_columns, column),
+    let at = first_place(s, q.right_columns, COLUMN_SIZE, column)?;
+    Some(ProfilePlace {
+        at: at as usize,
         rows: right_rows(s, q),
-    }
+    })
 }
 
 // The figures of the profile at a place.

@@ -1,16 +1,12 @@
 -- The sheets of document 01's marked sums. Definitions only.
-use Rattle.std.specs.Prelude.{ℕ, false, List, [], ◌∷◌, pos, negsuc}
+use Rattle.std.specs.Prelude.{ℕ, false, List, [], ◌∷◌, pos, negsuc, None, Option, Some}
 use Rattle.std.specs.Float.{binary64, fin}
 use Rattle.std.specs.Float.Ieee.{round}
-use Rattle.float.specs.Option.{none}
 use Rattle.scalar.specs.declared.Scalar.TheVariants.{Int32}
-use Rattle.scalar.specs.declared.Bound.{Bound}
-use Rattle.scalar.specs.declared.Bound.TheVariants.{Absent, Present}
+use Rattle.scalar.specs.declared.Scalar.{Scalar}
 use Rattle.estimate.specs.Estimates.{estimate_of}
 use Rattle.estimate.specs.declared.Estimate.{Estimate}
 use Rattle.estimate.specs.declared.EstimateSource.TheVariants.{Catalog}
-use Rattle.records.specs.declared.columns.BaseColumn.TheVariants.{Absent as NoBase}
-use Rattle.records.specs.declared.columns.SketchNumber.TheVariants.{Absent as NoSketch}
 use Rattle.records.specs.declared.columns.ColumnProfile.{ColumnProfile}
 use Rattle.records.specs.declared.expressions.BinaryOp.TheVariants.{Eq, IsNotDistinctFrom}
 use Rattle.records.specs.declared.expressions.NaryOp.TheVariants.{And, Or}
@@ -20,21 +16,21 @@ use Rattle.sheet.specs.Sheet.{Sheet}
 
 -- m times 2 to the e, of source 1, without bounds
 abbrev pub plain : ℕ → ℕ → Estimate
-plain m e = estimate_of (fin false m (pos e)) none none Catalog
+plain m e = estimate_of (fin false m (pos e)) None None Catalog
 
-abbrev pub profile : ℕ → Bound → Bound → Estimate → Estimate → ColumnProfile
+abbrev pub profile : ℕ → Option Scalar → Option Scalar → Estimate → Estimate → ColumnProfile
 profile column lower upper frequency distinct = record {
   column = column;
-  base = NoBase;
+  base = None;
   lower = lower;
   upper = upper;
   frequency = frequency;
   distinct = distinct;
-  sketch = NoSketch;
+  sketch = None;
 }
 
-abbrev pub int32 : ℕ → Bound
-int32 n = Present (Int32 (pos n))
+abbrev pub int32 : ℕ → Option Scalar
+int32 n = Some (Int32 (pos n))
 
 -- 100 rows and 50, the default settings, a left and a right column; columns 1 to 3 are expressions 0 to 2, and a join's conjuncts come behind them
 abbrev pub sheet_with : ColumnProfile → ColumnProfile → List Expression → List ℕ → Sheet
@@ -61,10 +57,10 @@ sheet_with left right expressions operands = record {
 
 -- left column 1: frequency 100, distinct 10; right column 2: frequency 50, distinct 25
 abbrev pub left : ColumnProfile
-left = profile 1 Absent Absent (plain 25 2) (plain 5 1)
+left = profile 1 None None (plain 25 2) (plain 5 1)
 
 abbrev pub right : ColumnProfile
-right = profile 2 Absent Absent (plain 25 1) (plain 25 0)
+right = profile 2 None None (plain 25 1) (plain 25 0)
 
 -- 1 = 2
 abbrev pub equality : Sheet
@@ -76,7 +72,7 @@ residual = sheet_with left right (Binary Eq 0 1 ∷ Other ∷ []) []
 
 -- frequencies 75 and 25, distincts 8 and 4, null-safe
 abbrev pub null_safe : Sheet
-null_safe = sheet_with (profile 1 Absent Absent (plain 75 0) (plain 1 3)) (profile 2 Absent Absent (plain 25 0) (plain 1 2)) (Binary IsNotDistinctFrom 0 1 ∷ []) []
+null_safe = sheet_with (profile 1 None None (plain 75 0) (plain 1 3)) (profile 2 None None (plain 25 0) (plain 1 2)) (Binary IsNotDistinctFrom 0 1 ∷ []) []
 
 -- bounds 0..9 and 10..19
 abbrev pub disjoint : Sheet
@@ -99,7 +95,7 @@ self_equality = sheet_with left right (Binary Eq 0 0 ∷ []) []
 
 -- frequency 75: expressions 3 and 4 are column 1 equal to itself, ordinary and null-safe
 abbrev pub itself : Sheet
-itself = sheet_with (profile 1 Absent Absent (plain 75 0) (plain 5 1)) right (Binary Eq 0 0 ∷ Binary IsNotDistinctFrom 0 0 ∷ []) []
+itself = sheet_with (profile 1 None None (plain 75 0) (plain 5 1)) right (Binary Eq 0 0 ∷ Binary IsNotDistinctFrom 0 0 ∷ []) []
 
 -- expression 5 is an Or of two of kind 6, 6 an empty And, 7 an empty Or
 abbrev pub logical : Sheet

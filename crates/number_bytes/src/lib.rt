@@ -1,5 +1,5 @@
 // Numbers written one after the other.
-#![tactic(auto)]
+#![tactic(auto, unfolding(crate::specs::Numbers::numbers_bytes, le::specs::Fields::field_bytes))]
 
 ghost use Rattle.std.specs.Prelude.{◌≡◌, ◌≤◌, [], ◌∷◌, length};
 ghost use Rattle.le.specs.Fields.{onto};

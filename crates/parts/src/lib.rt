@@ -9,24 +9,20 @@ ghost use Rattle.parts.specs.Parts.{column_ref};
 
 use layout::EXPRESSION_FIRST_OFFSET;
 use le::reads::u16_at;
-use lookup::numbers::{expression_kind, expression_place};
+use lookup::numbers::{ExpressionKind, expression_kind, expression_place};
 use sheet::Sections;
 
 pub mod equalities;
 pub mod literals;
 
-#[derive(Clone, Copy)]
-pub enum OptionColumn {
-    Absent,
-    Present(u16),
-}
-
 // Of the expression with a number.
-pub fn column_ref(s: &[u8], q: Sections, e: u16) -> OptionColumn
+pub fn column_ref(s: &[u8], q: Sections, e: u16) -> Option<u16>
     ensures { result ≡ column_ref (expression_of (sheet_of s.now q) e) }
 {
-    if expression_kind(s, q, e) == 1 {
-        return OptionColumn::Present(u16_at(s, expression_place(q, e) + EXPRESSION_FIRST_OFFSET));
+    match expression_kind(s, q, e) {
+        ExpressionKind::ColumnRef => {
+            Some(u16_at(s, expression_place(q, e) + EXPRESSION_FIRST_OFFSET))
+        }
+        _ => None,
     }
-    OptionColumn::Absent
 }

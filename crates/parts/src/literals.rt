@@ -1,17 +1,17 @@
 // column_literal of the source's analysis.rs: a column beside a literal.
-ghost use Rattle.std.specs.Prelude.{◌≡◌, ◌+◌, ◌<◌, ◌^◌};
+ghost use Rattle.std.specs.Prelude.{◌≡◌, ◌+◌, ◌<◌, ◌^◌, IfSome};
 ghost use Rattle.layout.specs.Places.{expression_scalar_offset};
 ghost use Rattle.expression_rules.specs.Operands.{expression_place};
 ghost use Rattle.parts.specs.Parts.{reversed, column_beside_place, column_literal_place};
 
 use layout::{EXPRESSION_FIRST_OFFSET, EXPRESSION_SCALAR_OFFSET};
 use le::reads::u16_at;
-use lookup::numbers::{expression_kind, expression_place};
+use lookup::numbers::{ExpressionKind, expression_kind, expression_place};
 use records::expressions::BinaryOp;
 use sheet::Sections;
 
-// A column beside a literal, by where the literal stands in the sheet: 0 where there is no such pair.
-// The operator is as it stands when the column comes first.
+// A column beside a literal, by where the literal stands in the sheet. The operator is as it stands
+// when the column comes first.
 #[derive(Clone, Copy)]
 pub struct PlacedLiteral {
     pub column: u16,
@@ -24,17 +24,11 @@ fn reversed(op: BinaryOp) -> BinaryOp
     ensures { result ≡ reversed op }
 {
     match op {
-        BinaryOp::Eq => BinaryOp::Eq,
-        BinaryOp::IsNotDistinctFrom => BinaryOp::IsNotDistinctFrom,
-        BinaryOp::NotEq => BinaryOp::NotEq,
         BinaryOp::Lt => BinaryOp::Gt,
         BinaryOp::LtEq => BinaryOp::GtEq,
         BinaryOp::Gt => BinaryOp::Lt,
         BinaryOp::GtEq => BinaryOp::LtEq,
-        BinaryOp::Add => BinaryOp::Add,
-        BinaryOp::Subtract => BinaryOp::Subtract,
-        BinaryOp::Multiply => BinaryOp::Multiply,
-        BinaryOp::Divide => BinaryOp::Divide,
+        _ => op,
     }
 }
 
@@ -46,36 +40,41 @@ fn literal_place(q: Sections, e: u16) -> usize
 }
 
 // Of two expressions by their numbers.
-fn column_beside(s: &[u8], q: Sections, op: BinaryOp, column: u16, literal: u16) -> PlacedLiteral
-    ensures { (result ≡ column_beside_place s.now q op column literal) × (result.at < 2 ^ 40) }
+fn column_beside(
+    s: &[u8],
+    q: Sections,
+    op: BinaryOp,
+    column: u16,
+    literal: u16,
+) -> Option<PlacedLiteral>
+    ensures value { result ≡ column_beside_place s.now q op column literal }
+    ensures within { IfSome result (λ pair. pair.at < 2 ^ 40) }
 {
-    if expression_kind(s, q, column) != 1 {
-        return PlacedLiteral {
-            column: 0,
-            at: 0,
-            op,
-        };
-    }
-    if expression_kind(s, q, literal) != 0 {
-        return PlacedLiteral {
-            column: 0,
-            at: 0,
-            op,
-        };
-    }
-    PlacedLiteral {
+    let ExpressionKind::ColumnRef = expression_kind(s, q, column) else {
+        return None;
+    };
+    let ExpressionKind::Literal = expression_kind(s, q, literal) else {
+        return None;
+    };
+    Some(PlacedLiteral {
         column: u16_at(s, expression_place(q, column) + EXPRESSION_FIRST_OFFSET),
         at: literal_place(q, literal),
         op,
-    }
+    })
 }
 
-pub fn column_literal(s: &[u8], q: Sections, op: BinaryOp, left: u16, right: u16) -> PlacedLiteral
-    ensures { (result ≡ column_literal_place s.now q op left right) × (result.at < 2 ^ 40) }
+pub fn column_literal(
+    s: &[u8],
+    q: Sections,
+    op: BinaryOp,
+    left: u16,
+    right: u16,
+) -> Option<PlacedLiteral>
+    ensures value { result ≡ column_literal_place s.now q op left right }
+    ensures within { IfSome result (λ pair. pair.at < 2 ^ 40) }
 {
-    if expression_kind(s, q, left) == 0 {
-        let turned = reversed(op);
-        return column_beside(s, q, turned, right, left);
+    match expression_kind(s, q, left) {
+        ExpressionKind::Literal => column_beside(s, q, reversed(op), right, left),
+        _ => column_beside(s, q, op, left, right),
     }
-    column_beside(s, q, op, left, right)
 }

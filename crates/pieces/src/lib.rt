@@ -3,46 +3,51 @@
 // of the bytes: one past the end of what is read counts as 0.
 #![tactic(auto)]
 
-ghost use Rattle.std.specs.Prelude.{◌≡◌};
+ghost use Rattle.std.specs.Prelude.{◌≡◌, is_some, unwrap_or};
+ghost use Rattle.float.specs.Order.{f64_zero};
 ghost use Rattle.power.specs.Power.{power};
 ghost use Rattle.root.specs.Root.{root};
 ghost use Rattle.scalar.specs.Number.{scalar_to_f64};
 ghost use Rattle.scalar_bytes.specs.Reading.{scalar_at};
-ghost use Rattle.pieces.specs.Pieces.{order_number, pieces_check, pieces_scalar_order, pieces_has_number, pieces_number, scalar_written, with_scalar, pieces_fraction, is_fraction, fraction_number, pieces_intersection, pieces_max_by_value, pieces_min_by_value, pieces_derived, written, with_estimate};
+ghost use Rattle.scalar_bytes.specs.Encoding.{scalar_bytes};
+ghost use Rattle.layout.specs.Places.{estimate_size, scalar_size};
+ghost use Rattle.estimate.specs.Bytes.{estimate_bytes};
+ghost use Rattle.pieces.specs.Pieces.{order_number, pieces_check, pieces_scalar_order, pieces_has_number, pieces_number, pieces_fraction, pieces_intersection, pieces_max_by_value, pieces_min_by_value, pieces_derived, written, with_front};
 
 use estimate::Estimate;
 use estimate::bytes::{estimate_at, put_estimate};
-use float::option::OptionF64;
-use interval::fraction::{IntervalFraction, scalar_interval_fraction};
+use interval::Interval;
+use interval::fraction::scalar_interval_fraction;
 use interval::intersection::{DistinctIntersection, estimated_distinct_intersection};
 use layout::{COLUMN_SIZE, ESTIMATE_SIZE, SCALAR_SIZE};
 use range::numbers::number_at;
 use records::columns::column_profile_at;
-use scalar::order::{ScalarOrdering, scalar_order};
+use scalar::order::scalar_order;
 use scalar_bytes::reads::scalar_at;
 use scalar_bytes::writes::put_scalar;
-use sheet::Checked;
+use std::cmp::Ordering;
 
 // The number of the rule that refuses the sheet, or 0.
+#[tactic(auto, unfolding(crate::specs::Pieces::pieces_check))]
 #[unsafe(no_mangle)]
 pub extern "C" fn pieces_check(sheet: &[u8]) -> u64
     ensures { result ≡ pieces_check sheet.now }
 {
-    let answer = sheet::check(sheet);
-    match answer {
-        Checked::Refused(n) => n as u64,
-        Checked::Accepted(_) => 0,
+    match sheet::check(sheet) {
+        Ok(_) => 0,
+        Err(refusal) => u64::from(refusal.number()),
     }
 }
 
-fn order_number(order: ScalarOrdering) -> u64
+// C has no Option: the order as a number.
+fn order_number(order: Option<Ordering>) -> u64
     ensures { result ≡ order_number order }
 {
     match order {
-        ScalarOrdering::Unordered => 0,
-        ScalarOrdering::Less => 1,
-        ScalarOrdering::Equal => 2,
-        ScalarOrdering::Greater => 3,
+        None => 0,
+        Some(Ordering::Less) => 1,
+        Some(Ordering::Equal) => 2,
+        Some(Ordering::Greater) => 3,
     }
 }
 
@@ -54,7 +59,7 @@ pub extern "C" fn pieces_scalar_order(left: &[u8], right: &[u8]) -> u64
     order_number(scalar_order(scalar_at(left, 0), scalar_at(right, 0)))
 }
 
-fn number_of(value: &[u8]) -> OptionF64
+fn number_of(value: &[u8]) -> Option<f64>
     ensures { result ≡ scalar_to_f64 (scalar_at value.now 0) }
 {
     number_at(value, 0)
@@ -65,8 +70,7 @@ fn number_of(value: &[u8]) -> OptionF64
 pub extern "C" fn pieces_has_number(value: &[u8]) -> bool
     ensures { result ≡ pieces_has_number value.now }
 {
-    let number = number_of(value);
-    number.present
+    number_of(value).is_some()
 }
 
 // The number of a scalar of 19 bytes, or +0.
@@ -74,8 +78,7 @@ pub extern "C" fn pieces_has_number(value: &[u8]) -> bool
 pub extern "C" fn pieces_number(value: &[u8]) -> f64
     ensures { result ≡ pieces_number value.now }
 {
-    let number = number_of(value);
-    number.number
+    number_of(value).unwrap_or(0.0)
 }
 
 // Writes what `EncodedScalarValue::from_scalar` makes of a scalar of 19 bytes, and zeros behind it, to
@@ -83,8 +86,8 @@ pub extern "C" fn pieces_number(value: &[u8]) -> f64
 // has no room for them it writes nothing and answers 0.
 #[unsafe(no_mangle)]
 pub extern "C" fn pieces_from_scalar(value: &[u8], out: &mut [u8]) -> u64
-    ensures value { result ≡ scalar_written out.old }
-    ensures out_after { out.new ≡ with_scalar (scalar_at value.now 0) out.old }
+    ensures value { result ≡ written scalar_size out.old }
+    ensures out_after { out.new ≡ with_front scalar_size (scalar_bytes (scalar_at value.now 0)) out.old }
 {
     if out.len() < SCALAR_SIZE {
         return 0;
@@ -100,39 +103,34 @@ const THIRD_SCALAR: usize = SECOND_SCALAR + SCALAR_SIZE;
 
 const FOURTH_SCALAR: usize = THIRD_SCALAR + SCALAR_SIZE;
 
-fn fraction_of(scalars: &[u8]) -> IntervalFraction
+fn fraction_of(scalars: &[u8]) -> Option<f64>
     ensures { result ≡ pieces_fraction scalars.now }
 {
-    scalar_interval_fraction(
-        scalar_at(scalars, 0),
-        scalar_at(scalars, SECOND_SCALAR),
-        scalar_at(scalars, THIRD_SCALAR),
-        scalar_at(scalars, FOURTH_SCALAR),
-    )
+    let interval = Interval {
+        lower: scalar_at(scalars, 0),
+        upper: scalar_at(scalars, SECOND_SCALAR),
+    };
+    let overlap = Interval {
+        lower: scalar_at(scalars, THIRD_SCALAR),
+        upper: scalar_at(scalars, FOURTH_SCALAR),
+    };
+    scalar_interval_fraction(interval, overlap)
 }
 
 // Whether four scalars of 19 bytes, one behind the other, have a fraction.
 #[unsafe(no_mangle)]
 pub extern "C" fn pieces_has_fraction(scalars: &[u8]) -> bool
-    ensures { result ≡ is_fraction (pieces_fraction scalars.now) }
+    ensures { result ≡ is_some (pieces_fraction scalars.now) }
 {
-    let fraction = fraction_of(scalars);
-    match fraction {
-        IntervalFraction::NoFraction => false,
-        IntervalFraction::Fraction(_) => true,
-    }
+    fraction_of(scalars).is_some()
 }
 
 // Their fraction, or +0.
 #[unsafe(no_mangle)]
 pub extern "C" fn pieces_fraction(scalars: &[u8]) -> f64
-    ensures { result ≡ fraction_number (pieces_fraction scalars.now) }
+    ensures { result ≡ unwrap_or (pieces_fraction scalars.now) f64_zero }
 {
-    let fraction = fraction_of(scalars);
-    match fraction {
-        IntervalFraction::NoFraction => 0.0,
-        IntervalFraction::Fraction(x) => x,
-    }
+    fraction_of(scalars).unwrap_or(0.0)
 }
 
 fn intersection_of(columns: &[u8], left_distinct: f64, right_distinct: f64) -> DistinctIntersection
@@ -175,8 +173,8 @@ pub extern "C" fn pieces_domains_disjoint(
 // Writes the 26 bytes of e to the front of out and answers 26. Where out has no room for them it
 // writes nothing and answers 0.
 fn write_estimate(out: &mut [u8], e: Estimate) -> u64
-    ensures value { result ≡ written out.old }
-    ensures out_after { out.new ≡ with_estimate e out.old }
+    ensures value { result ≡ written estimate_size out.old }
+    ensures out_after { out.new ≡ with_front estimate_size (estimate_bytes e) out.old }
 {
     if out.len() < ESTIMATE_SIZE {
         return 0;
@@ -188,8 +186,8 @@ fn write_estimate(out: &mut [u8], e: Estimate) -> u64
 // Writes the one of two estimates of 26 bytes that has the larger value, as `write_estimate` does.
 #[unsafe(no_mangle)]
 pub extern "C" fn pieces_max_by_value(left: &[u8], right: &[u8], out: &mut [u8]) -> u64
-    ensures value { result ≡ written out.old }
-    ensures out_after { out.new ≡ with_estimate (pieces_max_by_value left.now right.now) out.old }
+    ensures value { result ≡ written estimate_size out.old }
+    ensures out_after { out.new ≡ with_front estimate_size (estimate_bytes (pieces_max_by_value left.now right.now)) out.old }
 {
     write_estimate(
         out,
@@ -200,8 +198,8 @@ pub extern "C" fn pieces_max_by_value(left: &[u8], right: &[u8], out: &mut [u8])
 // As `pieces_max_by_value`, for the smaller value.
 #[unsafe(no_mangle)]
 pub extern "C" fn pieces_min_by_value(left: &[u8], right: &[u8], out: &mut [u8]) -> u64
-    ensures value { result ≡ written out.old }
-    ensures out_after { out.new ≡ with_estimate (pieces_min_by_value left.now right.now) out.old }
+    ensures value { result ≡ written estimate_size out.old }
+    ensures out_after { out.new ≡ with_front estimate_size (estimate_bytes (pieces_min_by_value left.now right.now)) out.old }
 {
     write_estimate(
         out,
@@ -213,8 +211,8 @@ pub extern "C" fn pieces_min_by_value(left: &[u8], right: &[u8], out: &mut [u8])
 // `write_estimate` does.
 #[unsafe(no_mangle)]
 pub extern "C" fn pieces_derived(value: &[u8], out: &mut [u8]) -> u64
-    ensures value { result ≡ written out.old }
-    ensures out_after { out.new ≡ with_estimate (pieces_derived value.now) out.old }
+    ensures value { result ≡ written estimate_size out.old }
+    ensures out_after { out.new ≡ with_front estimate_size (estimate_bytes (pieces_derived value.now)) out.old }
 {
     let e = estimate_at(value, 0);
     write_estimate(

@@ -1,4 +1,4 @@
 pub mod Powers
 pub mod Exponents
 pub mod Within
-pub mod Remainders
+pub mod Fractions

@@ -1,24 +1,20 @@
 -- Laws of predicates: what an expression gives, and the operands of a run one by one. Assumes nothing.
 use Prim.Native.Nat.{ℕ, ◌+◌, ◌-◌, ◌≤◌, ◌<◌, min}
 use mathlib.Core.Path.{◌≡◌, refl, sym, ap, ◌∙◌}
-use mathlib.Core.Bool.{Bool, true, false, cond}
 use mathlib.Core.List.{List}
-use borrow.Author.Tests.{ne_eqb}
-use lib.Dec.{eqb}
 use lib.ListN.{length}
 use lib.Ieee.{Float, binary64, mul}
 use Rattle.float.specs.Order.{f64_one}
-use Rattle.le.specs.Fields.{u16_at}
 use Rattle.estimate.specs.declared.Estimate.{Estimate}
 use Rattle.records.specs.Lists.{tabulate_from}
 use Rattle.records.specs.declared.expressions.NaryOp.{NaryOp}
-use Rattle.records.specs.declared.expressions.Expression.{Expression}
-use Rattle.records.specs.declared.expressions.Expression.TheVariants.{ColumnRef, Other}
 use Rattle.records.proofs.ListLaws.{tabulate_step, tabulate_end}
 use Rattle.expression_rules.specs.Operands.{expression_place}
 use Rattle.sheet.specs.Sheet.{Sheet, sheet_of}
 use Rattle.sheet.specs.declared.Sections.{Sections}
 use Rattle.lookup.specs.Lookup.{expression_of, operand_in, operands_of, expression_kind}
+use Rattle.lookup.specs.declared.numbers.ExpressionKind.{ExpressionKind}
+use Rattle.lookup.specs.declared.numbers.ExpressionKind.TheVariants.{Literal as LiteralKind, Unary as UnaryKind, Binary as BinaryKind, Nary as NaryKind, Like as LikeKind}
 use Rattle.lookup.specs.Recursion.{below, by_number}
 use Rattle.lookup.proofs.LookupLaws.{operands_from, of_kind, expression_is}
 use Rattle.lookup.proofs.RecursionLaws.{below_is, below_not}
@@ -46,23 +42,21 @@ module _ (sheet : Sheet) (e : ℕ) (x : LeafOrRun) (is : x ≡ leaf_or_run sheet
 
 -- ---- by its kind and its place
 
-module _ (s : List ℕ) (q : Sections) (e kind at : ℕ) (is : kind ≡ expression_kind s q e) (stands : at ≡ expression_place q.expressions e) where
-  pub of_kind_law : (told : ℕ) → kind ≡ told → leaf_or_run (sheet_of s q) (of_kind s at told) ≡ leaf_or_run (sheet_of s q) (expression_of (sheet_of s q) e)
+module _ (s : List ℕ) (q : Sections) (e : ℕ) (kind : ExpressionKind) (at : ℕ) (is : kind ≡ expression_kind s q e) (stands : at ≡ expression_place q.expressions e) where
+  pub of_kind_law : (told : ExpressionKind) → kind ≡ told → leaf_or_run (sheet_of s q) (of_kind s at told) ≡ leaf_or_run (sheet_of s q) (expression_of (sheet_of s q) e)
   of_kind_law told h = rw stands (ap (leaf_or_run (sheet_of s q)) (sym (expression_is s q e told (sym is ∙ h))))
 
-  -- a column, or a kind past the last
-  pub of_other : (kind ≡ 0 → ⊥) → (kind ≡ 2 → ⊥) → (kind ≡ 3 → ⊥) → (kind ≡ 4 → ⊥) → (kind ≡ 5 → ⊥) → Leaf (default_estimate (sheet_of s q)) ≡ leaf_or_run (sheet_of s q) (expression_of (sheet_of s q) e)
-  of_other n0 n2 n3 n4 n5 = other (eqb kind 1) ∙ ap (leaf_or_run (sheet_of s q)) (sym is_other) ∙ of_kind_law kind refl
+  -- a column, or any other expression
+  pub of_other : (kind ≡ LiteralKind → ⊥) → (kind ≡ UnaryKind → ⊥) → (kind ≡ BinaryKind → ⊥) → (kind ≡ NaryKind → ⊥) → (kind ≡ LikeKind → ⊥) → Leaf (default_estimate (sheet_of s q)) ≡ leaf_or_run (sheet_of s q) (expression_of (sheet_of s q) e)
+  of_other n0 n2 n3 n4 n5 = go kind n0 n2 n3 n4 n5 ∙ of_kind_law kind refl
     where
-      column : Bool → Expression
-      column b = cond b (ColumnRef (u16_at s (at + 2))) Other
-
-      other : (b : Bool) → Leaf (default_estimate (sheet_of s q)) ≡ leaf_or_run (sheet_of s q) (column b)
-      other true = refl
-      other false = refl
-
-      is_other : of_kind s at kind ≡ column (eqb kind 1)
-      is_other = rw (ne_eqb kind 0 n0, ne_eqb kind 2 n2, ne_eqb kind 3 n3, ne_eqb kind 4 n4, ne_eqb kind 5 n5) refl
+      go : (k : ExpressionKind) → (k ≡ LiteralKind → ⊥) → (k ≡ UnaryKind → ⊥) → (k ≡ BinaryKind → ⊥) → (k ≡ NaryKind → ⊥) → (k ≡ LikeKind → ⊥) → Leaf (default_estimate (sheet_of s q)) ≡ leaf_or_run (sheet_of s q) (of_kind s at k)
+      go LiteralKind n0 n2 n3 n4 n5 = absurd (n0 refl)
+      go UnaryKind n0 n2 n3 n4 n5 = absurd (n2 refl)
+      go BinaryKind n0 n2 n3 n4 n5 = absurd (n3 refl)
+      go NaryKind n0 n2 n3 n4 n5 = absurd (n4 refl)
+      go LikeKind n0 n2 n3 n4 n5 = absurd (n5 refl)
+      go _ n0 n2 n3 n4 n5 = refl
 
 -- ---- an operand, below a limit or not
 

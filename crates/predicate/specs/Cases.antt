@@ -1,15 +1,11 @@
 -- Worked predicates: those that document 01 marks, and an And within an And. Assumes nothing.
-use Rattle.std.specs.Prelude.{ℕ, ◌≡◌, refl, false, [], ◌∷◌, pos, negsuc, Float}
+use Rattle.std.specs.Prelude.{ℕ, ◌≡◌, refl, false, [], ◌∷◌, pos, negsuc, Float, None, Some}
 use Rattle.std.specs.Float.{fin, binary64}
 use Rattle.std.specs.Float.Ieee.{round, lt, le, eq, sub, add, mul, div, neg}
 use Rattle.float.specs.Order.{f64_zero, f64_one}
-use Rattle.float.specs.Option.{some, none}
-use Rattle.scalar.specs.declared.Bound.TheVariants.{Absent}
 use Rattle.estimate.specs.Estimates.{estimate_of}
 use Rattle.estimate.specs.declared.Estimate.{Estimate}
 use Rattle.estimate.specs.declared.EstimateSource.TheVariants.{Catalog, Derived}
-use Rattle.records.specs.declared.columns.BaseColumn.TheVariants.{Absent as NoBase}
-use Rattle.records.specs.declared.columns.SketchNumber.TheVariants.{Absent as NoSketch}
 use Rattle.records.specs.declared.expressions.BinaryOp.TheVariants.{Eq, IsNotDistinctFrom}
 use Rattle.records.specs.declared.expressions.NaryOp.TheVariants.{And, Or}
 use Rattle.records.specs.declared.expressions.Expression.TheVariants.{ColumnRef, Binary, Nary, Other}
@@ -17,7 +13,7 @@ use Rattle.sheet.specs.Sheet.{Sheet}
 use Rattle.predicate.specs.Predicate.{filter_selectivity_for_predicate}
 
 abbrev plain : ℕ → ℕ → Estimate
-plain m e = estimate_of (fin false m (pos e)) none none Catalog
+plain m e = estimate_of (fin false m (pos e)) None None Catalog
 
 -- column 1 of 100 rows is not null in 75, and the settings are the default ones
 abbrev sheet : Sheet
@@ -36,12 +32,12 @@ sheet = record {
   keys = [];
   left_columns = record {
     column = 1;
-    base = NoBase;
-    lower = Absent;
-    upper = Absent;
+    base = None;
+    lower = None;
+    upper = None;
     frequency = plain 75 0;
     distinct = plain 5 1;
-    sketch = NoSketch;
+    sketch = None;
   } ∷ [];
   right_columns = [];
   left_classes = [];
@@ -52,7 +48,7 @@ sheet = record {
 
 -- derived, with the bounds 0 and 1
 abbrev within : Float → Estimate
-within value = estimate_of value (some f64_zero) (some f64_one) Derived
+within value = estimate_of value (Some f64_zero) (Some f64_one) Derived
 
 -- the column equal to itself: 0.75
 itself : filter_selectivity_for_predicate sheet 1 ≡ within (fin false 3 (negsuc 1))

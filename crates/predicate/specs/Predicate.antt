@@ -4,13 +4,13 @@ use Rattle.std.specs.Float.{binary64}
 use Rattle.std.specs.Float.Ieee.{sub, mul}
 use Rattle.float.specs.Order.{f64_zero, f64_one}
 use Rattle.scalar.specs.declared.Scalar.{Scalar}
-use Rattle.scalar.specs.declared.Scalar.TheVariants.{Null, Boolean, Int32, Int64, Float64, Decimal128, Date32, IntervalMonthDayNano, IntervalDayTime}
+use Rattle.scalar.specs.declared.Scalar.TheVariants.{Boolean}
 use Rattle.estimate.specs.Estimates.{exact}
 use Rattle.estimate.specs.declared.Estimate.{Estimate}
 use Rattle.records.specs.declared.expressions.NaryOp.{NaryOp}
 use Rattle.records.specs.declared.expressions.NaryOp.TheVariants.{And, Or}
 use Rattle.records.specs.declared.expressions.Expression.{Expression}
-use Rattle.records.specs.declared.expressions.Expression.TheVariants.{Literal, ColumnRef, Unary, Binary, Nary, Like, Other}
+use Rattle.records.specs.declared.expressions.Expression.TheVariants.{Literal, Unary, Binary, Nary, Like}
 use Rattle.sheet.specs.Sheet.{Sheet}
 use Rattle.lookup.specs.Lookup.{expression_of, operands_of}
 use Rattle.lookup.specs.Recursion.{by_number}
@@ -28,15 +28,8 @@ truth_estimate false = exact f64_zero
 
 unfoldable pub literal_estimate : Sheet → Scalar → Estimate
 unfolding exact default_estimate
-literal_estimate sheet Null = default_estimate sheet
 literal_estimate sheet (Boolean b) = truth_estimate b
-literal_estimate sheet (Int32 x) = default_estimate sheet
-literal_estimate sheet (Int64 x) = default_estimate sheet
-literal_estimate sheet (Float64 x) = default_estimate sheet
-literal_estimate sheet (Decimal128 value precision scale) = default_estimate sheet
-literal_estimate sheet (Date32 x) = default_estimate sheet
-literal_estimate sheet (IntervalMonthDayNano months days nanoseconds) = default_estimate sheet
-literal_estimate sheet (IntervalDayTime days milliseconds) = default_estimate sheet
+literal_estimate sheet _ = default_estimate sheet
 
 -- ---- an And or an Or
 
@@ -59,12 +52,11 @@ nary_estimate Or product = unit_estimate (sub binary64 f64_one product)
 -- a leaf's own estimate, or the operator and the operands of an And or an Or
 abbrev pub leaf_or_run : Sheet → Expression → LeafOrRun
 leaf_or_run sheet (Literal value) = Leaf (literal_estimate sheet value)
-leaf_or_run sheet (ColumnRef column) = Leaf (default_estimate sheet)
 leaf_or_run sheet (Unary op expr) = Leaf (unary_selectivity sheet op expr)
 leaf_or_run sheet (Binary op left right) = Leaf (binary_selectivity sheet op left right)
 leaf_or_run sheet (Nary op first count) = Run op first count
 leaf_or_run sheet Like = Leaf (unit_estimate sheet.settings.like_selectivity)
-leaf_or_run sheet Other = Leaf (default_estimate sheet)
+leaf_or_run sheet _ = Leaf (default_estimate sheet)
 
 -- by the estimates of smaller numbers
 abbrev pub run_estimate : Sheet → (ℕ → Estimate) → LeafOrRun → Estimate

@@ -20,7 +20,7 @@ use layout::{
 use le::floats::f64_at;
 use le::reads::{byte_at, u16_at};
 use range::selectivity::{default_estimate, unit_estimate};
-use records::expressions::{binary_op, unary_op};
+use records::expressions::{BinaryOp, UnaryOp};
 use scalar::Scalar;
 use scalar_bytes::reads::scalar_at;
 use sheet::Sections;
@@ -35,30 +35,13 @@ fn truth_estimate(b: bool) -> Estimate
     }
 }
 
+#[tactic(auto, unfolding(crate::specs::Predicate::literal_estimate))]
 fn literal_estimate(s: &[u8], q: Sections, value: Scalar) -> Estimate
     ensures { result ≡ literal_estimate (sheet_of s.now q) value }
 {
     match value {
-        Scalar::Null => default_estimate(s, q),
         Scalar::Boolean(b) => truth_estimate(b),
-        Scalar::Int32(_) => default_estimate(s, q),
-        Scalar::Int64(_) => default_estimate(s, q),
-        Scalar::Float64(_) => default_estimate(s, q),
-        Scalar::Decimal128 {
-            value: _,
-            precision: _,
-            scale: _,
-        } => default_estimate(s, q),
-        Scalar::Date32(_) => default_estimate(s, q),
-        Scalar::IntervalMonthDayNano {
-            months: _,
-            days: _,
-            nanoseconds: _,
-        } => default_estimate(s, q),
-        Scalar::IntervalDayTime {
-            days: _,
-            milliseconds: _,
-        } => default_estimate(s, q),
+        _ => default_estimate(s, q),
     }
 }
 
@@ -73,7 +56,7 @@ pub fn unary_at(s: &[u8], q: Sections, at: usize) -> Estimate
     requires { at < 2 ^ 40 }
     ensures { result ≡ unary_selectivity (sheet_of s.now q) (unary_op (byte_at s.now (at + expression_op_offset))) (u16_at s.now (at + expression_first_offset)) }
 {
-    let op = unary_op(byte_at(s, at + EXPRESSION_OP_OFFSET));
+    let op = UnaryOp::from(byte_at(s, at + EXPRESSION_OP_OFFSET));
     unary_selectivity(s, q, op, u16_at(s, at + EXPRESSION_FIRST_OFFSET))
 }
 
@@ -81,7 +64,7 @@ pub fn binary_at(s: &[u8], q: Sections, at: usize) -> Estimate
     requires { at < 2 ^ 40 }
     ensures { result ≡ binary_selectivity (sheet_of s.now q) (binary_op (byte_at s.now (at + expression_op_offset))) (u16_at s.now (at + expression_first_offset)) (u16_at s.now (at + expression_second_offset)) }
 {
-    let op = binary_op(byte_at(s, at + EXPRESSION_OP_OFFSET));
+    let op = BinaryOp::from(byte_at(s, at + EXPRESSION_OP_OFFSET));
     let left = u16_at(s, at + EXPRESSION_FIRST_OFFSET);
     let right = u16_at(s, at + EXPRESSION_SECOND_OFFSET);
     binary_selectivity(s, q, op, left, right)

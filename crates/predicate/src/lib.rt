@@ -23,8 +23,7 @@ mod run;
 pub fn filter_selectivity_for_predicate(s: &[u8], q: Sections, e: u16) -> Estimate
     ensures { result ≡ filter_selectivity_for_predicate (sheet_of s.now q) e }
 {
-    let x = leaf_or_run(s, q, e);
-    match x {
+    match leaf_or_run(s, q, e) {
         LeafOrRun::Leaf(estimate) => estimate,
         LeafOrRun::Run { op, first, count } => {
             nary_estimate(op, operand_product(s, q, op, first, count, e))
@@ -38,10 +37,8 @@ pub fn filter_selectivity_for_predicate(s: &[u8], q: Sections, e: u16) -> Estima
 fn operand_product(s: &[u8], q: Sections, op: NaryOp, first: u16, count: u16, limit: u16) -> f64
     ensures { result ≡ operand_product op (below (selectivity_by (sheet_of s.now q)) (default_of (sheet_of s.now q)) limit) f64_one (operands_of (sheet_of s.now q) first count) }
 {
-    let end = run_end(s, q, first, count);
     let mut product = 1.0;
-    let mut i = first as usize;
-    while i < end {
+    for i in first as usize..run_end(s, q, first, count) {
         let o = operand_in(s, q, i);
         let operand = if o < limit {
             filter_selectivity_for_predicate(s, q, o)
@@ -52,7 +49,6 @@ fn operand_product(s: &[u8], q: Sections, op: NaryOp, first: u16, count: u16, li
             NaryOp::And => product * operand.value,
             NaryOp::Or => product * (1.0 - operand.value),
         };
-        i += 1;
     }
     product
 }

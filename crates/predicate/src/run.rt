@@ -12,9 +12,9 @@ use crate::leaves::{binary_at, like_estimate, literal_at, unary_at};
 use estimate::Estimate;
 use layout::{EXPRESSION_FIRST_OFFSET, EXPRESSION_OP_OFFSET, EXPRESSION_SECOND_OFFSET};
 use le::reads::{byte_at, u16_at};
-use lookup::numbers::{expression_kind, expression_place};
+use lookup::numbers::{ExpressionKind, expression_kind, expression_place};
 use range::selectivity::{default_estimate, unit_estimate};
-use records::expressions::{NaryOp, nary_op};
+use records::expressions::NaryOp;
 use sheet::Sections;
 
 #[derive(Clone, Copy)]
@@ -27,7 +27,7 @@ fn run_at(s: &[u8], at: usize) -> LeafOrRun
     requires { at < 2 ^ 40 }
     ensures { result ≡ Run (nary_op (byte_at s.now (at + expression_op_offset))) (u16_at s.now (at + expression_first_offset)) (u16_at s.now (at + expression_second_offset)) }
 {
-    let op = nary_op(byte_at(s, at + EXPRESSION_OP_OFFSET));
+    let op = NaryOp::from(byte_at(s, at + EXPRESSION_OP_OFFSET));
     let first = u16_at(s, at + EXPRESSION_FIRST_OFFSET);
     let count = u16_at(s, at + EXPRESSION_SECOND_OFFSET);
     LeafOrRun::Run { op, first, count }
@@ -37,13 +37,12 @@ pub fn leaf_or_run(s: &[u8], q: Sections, e: u16) -> LeafOrRun
     ensures { result ≡ leaf_or_run (sheet_of s.now q) (expression_of (sheet_of s.now q) e) }
 {
     let at = expression_place(q, e);
-    let kind = expression_kind(s, q, e);
-    match kind {
-        0 => LeafOrRun::Leaf(literal_at(s, q, at)),
-        2 => LeafOrRun::Leaf(unary_at(s, q, at)),
-        3 => LeafOrRun::Leaf(binary_at(s, q, at)),
-        4 => run_at(s, at),
-        5 => LeafOrRun::Leaf(like_estimate(s, q)),
+    match expression_kind(s, q, e) {
+        ExpressionKind::Literal => LeafOrRun::Leaf(literal_at(s, q, at)),
+        ExpressionKind::Unary => LeafOrRun::Leaf(unary_at(s, q, at)),
+        ExpressionKind::Binary => LeafOrRun::Leaf(binary_at(s, q, at)),
+        ExpressionKind::Nary => run_at(s, at),
+        ExpressionKind::Like => LeafOrRun::Leaf(like_estimate(s, q)),
         _ => LeafOrRun::Leaf(default_estimate(s, q)),
     }
 }

@@ -1,4 +1,5 @@
 -- Comparisons, IS NULL and IS NOT NULL. Assumes nothing.
+use Rattle.std.specs.Prelude.{Option, None, Some, IfSome}
 use Prim.Native.Nat.{ℕ}
 use mathlib.Core.Path.{◌≡◌}
 use mathlib.Core.Bool.{Bool, true, cond}
@@ -7,7 +8,6 @@ use lib.Dec.{eqb, lit≤}
 use lib.ListN.{length}
 use lib.Ieee.{Float, binary64, sub, mul, div}
 use Rattle.float.specs.Order.{f64_zero, f64_one, f64_max, clamp_unit, Unit01}
-use Rattle.float.specs.declared.option.OptionF64.{OptionF64}
 use Rattle.float.proofs.UnitLaws.{zero_unit, one_unit, mul_unit}
 use Rattle.scalar.specs.Types.{is_null}
 use Rattle.scalar.specs.declared.Scalar.{Scalar}
@@ -26,15 +26,13 @@ use Rattle.units.proofs.SizeLaws.{round_up_to, up_to_unit}
 use Rattle.units.proofs.FigureLaws.{figure_max, figure_max_one_order, share_unit, figure_quotient_unit}
 use Rattle.units.proofs.SpreadLaws.{positive_difference_unit}
 use Rattle.units.proofs.UnitOperations.{complement_unit, sum_unit}
-use Rattle.lookup.specs.Lookup.{ProfileAndRows, Absent, Present, expression_of, profile_and_rows}
+use Rattle.std.specs.Prelude.{Option, None, Some}
+use Rattle.lookup.specs.Lookup.{ProfileAndRows, expression_of, profile_and_rows}
 use Rattle.sketch.specs.Frequent.{frequent_value_selectivity}
 use Rattle.range.specs.Selectivity.{unit_estimate, default_estimate, non_null_fraction}
 use Rattle.range.specs.Range.{range_selectivity}
-use Rattle.parts.specs.Parts.{ColumnLiteral, NoPair, Pair, column_ref, is_null_safe, column_literal, column_equality_from_parts}
-use Rattle.parts.specs.declared.OptionColumn.{OptionColumn}
-use Rattle.parts.specs.declared.OptionColumn.TheVariants.{Absent as NoColumn, Present as Column}
-use Rattle.parts.specs.declared.equalities.ColumnEquality.{ColumnEquality}
-use Rattle.parts.specs.declared.equalities.ColumnEquality.TheVariants.{Absent as NoEquality, Present as Equality}
+use Rattle.parts.specs.Parts.{ColumnLiteral, column_ref, is_null_safe, column_literal, column_equality_from_parts}
+use Rattle.parts.specs.declared.equalities.EqualColumns.{EqualColumns}
 use Rattle.comparison.specs.Literal.{equality_part, range_part, comparison_value, comparison_selectivity, profile_selectivity, found_selectivity, literal_selectivity}
 use Rattle.comparison.specs.Columns.{self_selectivity, pair_selectivity, profiles_selectivity, found_columns, columns_selectivity}
 use Rattle.comparison.specs.Unary.{frequency_in, frequency_of, larger_rows, tenth, nine_tenths, is_null_selectivity, is_not_null_selectivity, unary_selectivity}
@@ -43,7 +41,7 @@ use Rattle.predicate_range.specs.Range.{BoundedInUnit}
 use Rattle.predicate_range.proofs.NumberRange.{either}
 use Rattle.predicate_range.proofs.FoundRange.{expression_lawful, LawfulFound, profile_lawful}
 use Rattle.predicate_range.proofs.LeafRange.{selectivity_unit, unit_bounded, exact_bounded, default_bounded}
-use Rattle.predicate_range.proofs.SketchRange.{frequent_unit}
+use Rattle.predicate_range.proofs.SketchRange.{unit_or, frequent_unit}
 use Rattle.predicate_range.proofs.ColumnRange.{fraction_unit, range_bounded}
 use Rattle.predicate_range.proofs.PartRange.{LawfulPair, pair_lawful}
 
@@ -74,9 +72,8 @@ module _ (sheet : Sheet) (h : LawfulSheet sheet) where
   equality_unit : (profile : ColumnProfile) (literal : Scalar) (non_null : Float) → LawfulColumn (length sheet.sketches) profile → Unit01 non_null
       → Unit01 (equality_part sheet profile literal non_null)
   equality_unit profile literal non_null p u =
-      let frequent = frequent_value_selectivity sheet.sketches profile literal in
       let distinct = profile.distinct.value in
-      either Unit01 frequent.present frequent.number (div binary64 non_null (f64_max distinct f64_one)) (frequent_unit sheet.sketches profile literal h.sketches p.distinct.value) (share_unit non_null distinct u p.distinct.value)
+      unit_or (frequent_value_selectivity sheet.sketches profile literal) (div binary64 non_null (f64_max distinct f64_one)) (frequent_unit sheet.sketches profile literal h.sketches p.distinct.value) (share_unit non_null distinct u p.distinct.value)
 
   profile_bounded : (profile : ColumnProfile) (rows : Float) (literal : Scalar) (op : BinaryOp) → LawfulColumn (length sheet.sketches) profile → LawfulFigure rows → lawful_scalar literal ≡ true → BoundedInUnit (profile_selectivity sheet profile rows literal op)
   unfolding profile_selectivity
@@ -86,9 +83,9 @@ module _ (sheet : Sheet) (h : LawfulSheet sheet) where
       let equality = equality_part sheet profile literal non_null in
       either BoundedInUnit (is_null literal) (exact f64_zero) (comparison_selectivity sheet profile literal op non_null equality) (exact_bounded f64_zero zero_unit) (comparison profile literal op non_null equality p l u (equality_unit profile literal non_null p u))
 
-  found_bounded : (found : ProfileAndRows) (literal : Scalar) (op : BinaryOp) → LawfulFound (length sheet.sketches) found → lawful_scalar literal ≡ true → BoundedInUnit (found_selectivity sheet found literal op)
-  found_bounded Absent literal op f l = default_bounded sheet h
-  found_bounded (Present profile rows) literal op f l = profile_bounded profile rows literal op f.0 f.1 l
+  found_bounded : (found : Option ProfileAndRows) (literal : Scalar) (op : BinaryOp) → LawfulFound (length sheet.sketches) found → lawful_scalar literal ≡ true → BoundedInUnit (found_selectivity sheet found literal op)
+  found_bounded None literal op f l = default_bounded sheet h
+  found_bounded (Some (profile, rows)) literal op f l = profile_bounded profile rows literal op f.0 f.1 l
 
   literal_bounded : (column : ℕ) (literal : Scalar) (op : BinaryOp) → lawful_scalar literal ≡ true → BoundedInUnit (literal_selectivity sheet column literal op)
   unfolding literal_selectivity
@@ -120,23 +117,23 @@ module _ (sheet : Sheet) (h : LawfulSheet sheet) where
       either BoundedInUnit same (self_selectivity null_safe x) (pair_selectivity null_safe x y left.distinct.value right.distinct.value) (self_bounded null_safe x u)
       (pair_bounded null_safe x y left.distinct.value right.distinct.value u v p.distinct.value q.distinct.value)
 
-  found_columns_law : (null_safe same : Bool) (left right : ProfileAndRows) → LawfulFound (length sheet.sketches) left → LawfulFound (length sheet.sketches) right → BoundedInUnit (found_columns sheet null_safe same left right)
-  found_columns_law null_safe same Absent right f g = default_bounded sheet h
-  found_columns_law null_safe same (Present left left_rows) Absent f g = default_bounded sheet h
-  found_columns_law null_safe same (Present left left_rows) (Present right right_rows) f g = profiles_bounded null_safe same left left_rows right right_rows f.0 f.1 g.0 g.1
+  found_columns_law : (null_safe same : Bool) (left right : Option ProfileAndRows) → LawfulFound (length sheet.sketches) left → LawfulFound (length sheet.sketches) right → BoundedInUnit (found_columns sheet null_safe same left right)
+  found_columns_law null_safe same None right f g = default_bounded sheet h
+  found_columns_law null_safe same (Some (left, left_rows)) None f g = default_bounded sheet h
+  found_columns_law null_safe same (Some (left, left_rows)) (Some (right, right_rows)) f g = profiles_bounded null_safe same left left_rows right right_rows f.0 f.1 g.0 g.1
 
   columns_bounded : (null_safe : Bool) (left right : ℕ) → BoundedInUnit (columns_selectivity sheet null_safe left right)
   unfolding columns_selectivity
   columns_bounded null_safe left right = found_columns_law null_safe (eqb left right) (profile_and_rows sheet left) (profile_and_rows sheet right) (profile_lawful sheet h left) (profile_lawful sheet h right)
 
   -- ---- either
-  equality_bounded : (op : BinaryOp) (columns : ColumnEquality) → BoundedInUnit (equality_or_default sheet op columns)
-  equality_bounded op NoEquality = default_bounded sheet h
-  equality_bounded op (Equality left right) = columns_bounded (is_null_safe op) left right
+  equality_bounded : (op : BinaryOp) (columns : Option EqualColumns) → BoundedInUnit (equality_or_default sheet op columns)
+  equality_bounded op None = default_bounded sheet h
+  equality_bounded op (Some columns) = columns_bounded (is_null_safe op) columns.left columns.right
 
-  either_bounded : (op : BinaryOp) (pair : ColumnLiteral) (columns : ColumnEquality) → LawfulPair pair → BoundedInUnit (literal_or_equality sheet op pair columns)
-  either_bounded op NoPair columns l = equality_bounded op columns
-  either_bounded op (Pair column literal normalized) columns l = literal_bounded sheet h column literal normalized l
+  either_bounded : (op : BinaryOp) (pair : Option ColumnLiteral) (columns : Option EqualColumns) → LawfulPair pair → BoundedInUnit (literal_or_equality sheet op pair columns)
+  either_bounded op None columns l = equality_bounded op columns
+  either_bounded op (Some (column, literal, normalized)) columns l = literal_bounded sheet h column literal normalized l
 
   pub binary_bounded : (op : BinaryOp) (left right : ℕ) → BoundedInUnit (binary_selectivity sheet op left right)
   unfolding binary_selectivity
@@ -152,31 +149,28 @@ tenth_unit = up_to_unit tenth (round_up_to 0 1 10 (lit≤ tt) (zero-lt-suc 9) (l
 nine_tenths_unit : Unit01 nine_tenths
 nine_tenths_unit = up_to_unit nine_tenths (round_up_to 0 9 10 (lit≤ tt) (zero-lt-suc 9) (lit≤ tt))
 
-zero_figure : LawfulFigure f64_zero
-zero_figure = record { held = zero_unit.held; lawful = tt }
-
 module _ (sheet : Sheet) (h : LawfulSheet sheet) where
-  frequency_in_figure : (n : ℕ) (found : ProfileAndRows) → LawfulFound n found → LawfulFigure (frequency_in found).number
-  frequency_in_figure n Absent f = zero_figure
-  frequency_in_figure n (Present profile rows) f = f.0.frequency.value
+  frequency_in_figure : (n : ℕ) (found : Option ProfileAndRows) → LawfulFound n found → IfSome (frequency_in found) LawfulFigure
+  frequency_in_figure n None f = tt
+  frequency_in_figure n (Some (profile, rows)) f = f.0.frequency.value
 
-  frequency_figure : (column : OptionColumn) → LawfulFigure (frequency_of sheet column).number
-  frequency_figure NoColumn = zero_figure
-  frequency_figure (Column column) = frequency_in_figure (length sheet.sketches) (profile_and_rows sheet column) (profile_lawful sheet h column)
+  frequency_figure : (column : Option ℕ) → IfSome (frequency_of sheet column) LawfulFigure
+  frequency_figure None = tt
+  frequency_figure (Some column) = frequency_in_figure (length sheet.sketches) (profile_and_rows sheet column) (profile_lawful sheet h column)
 
-  share : (x : OptionF64) → LawfulFigure x.number → Unit01 (clamp_unit (div binary64 x.number (larger_rows sheet)))
+  share : (x : Float) → LawfulFigure x → Unit01 (clamp_unit (div binary64 x (larger_rows sheet)))
   share x f =
       let rows = f64_max sheet.left_rows.value sheet.right_rows.value in
       let m = figure_max_one_order rows (figure_max sheet.left_rows.value sheet.right_rows.value h.left_rows.value h.right_rows.value) in
-      figure_quotient_unit x.number (f64_max rows f64_one) f m.low m.above
+      figure_quotient_unit x (f64_max rows f64_one) f m.low m.above
 
-  null_unit : (x : OptionF64) → LawfulFigure x.number → Unit01 (is_null_selectivity x (larger_rows sheet))
-  null_unit x f =
-      let y = clamp_unit (div binary64 x.number (larger_rows sheet)) in
-      either Unit01 x.present (sub binary64 f64_one y) tenth (complement_unit y (share x f)) tenth_unit
+  null_unit : (x : Option Float) → IfSome x LawfulFigure → Unit01 (is_null_selectivity x (larger_rows sheet))
+  null_unit None f = tenth_unit
+  null_unit (Some x) f = complement_unit (clamp_unit (div binary64 x (larger_rows sheet))) (share x f)
 
-  not_null_unit : (x : OptionF64) → LawfulFigure x.number → Unit01 (is_not_null_selectivity x (larger_rows sheet))
-  not_null_unit x f = either Unit01 x.present (clamp_unit (div binary64 x.number (larger_rows sheet))) nine_tenths (share x f) nine_tenths_unit
+  not_null_unit : (x : Option Float) → IfSome x LawfulFigure → Unit01 (is_not_null_selectivity x (larger_rows sheet))
+  not_null_unit None f = nine_tenths_unit
+  not_null_unit (Some x) f = share x f
 
   pub unary_bounded : (op : UnaryOp) (expr : ℕ) → BoundedInUnit (unary_selectivity sheet op expr)
   unfolding unary_selectivity

@@ -7,6 +7,7 @@ use mathlib.Core.List.{List, [], ◌∷◌}
 use lib.Dec.{T, eqb, ltb, ltb→lt, nltb→le, lit≤}
 use lib.ListN.{length, get_or, get_or-eq_default}
 use lib.Ieee.{Float}
+use Rattle.std.specs.Prelude.{Option, Some, None}
 use Rattle.scalar.specs.Order.{scalar_order, is_equal}
 use Rattle.scalar.specs.declared.Scalar.{Scalar}
 use Rattle.estimate.specs.Bytes.{LawfulFigure}
@@ -19,11 +20,12 @@ use Rattle.record_rules.specs.Lawful.{LawfulColumn}
 use Rattle.sketch_rules.specs.Lawful.{LawfulItem}
 use Rattle.lawful.specs.Lawful.{Each, LawfulSketch, LawfulExpression, LawfulSheet}
 use Rattle.lawful.proofs.EachLaws.{each_at}
+use Rattle.std.specs.Prelude.{Option, None, Some}
+use Rattle.std.specs.Option.{option_or}
 use Rattle.scan.specs.Scan.{first_with}
-use Rattle.lookup.specs.Lookup.{ProfileAndRows, Absent, Present, expression_of, profile_in, or_else_profile, profile_and_rows}
-use Rattle.sketch.specs.Frequent.{no_sketch, sketch_of, find_item}
-use Rattle.sketch.specs.declared.items.FoundItem.{FoundItem}
-use Rattle.sketch.specs.declared.items.FoundItem.TheVariants.{Absent as NoItem, Present as Item}
+use Rattle.lookup.specs.Lookup.{ProfileAndRows, expression_of, profile_in, profile_and_rows}
+use Rattle.sketch.specs.declared.items.Counts.{Counts}
+use Rattle.sketch.specs.Frequent.{counts_of, no_sketch, sketch_of, find_item}
 use Rattle.predicate_range.proofs.NumberRange.{either}
 
 -- ---- what holds of a member and of what stands for a missing one
@@ -39,19 +41,19 @@ pub expression_lawful : (sheet : Sheet) → LawfulSheet sheet → (e : ℕ) → 
 expression_lawful sheet h e = at_or_default (LawfulExpression e) sheet.expressions e Other (h.expressions e) tt
 
 -- ---- profiles
-abbrev pub LawfulFound : ℕ → ProfileAndRows → Type 0
-LawfulFound n Absent = Unit {0}
-LawfulFound n (Present profile rows) = LawfulColumn n profile × LawfulFigure rows
+abbrev pub LawfulFound : ℕ → Option ProfileAndRows → Type 0
+LawfulFound n None = Unit {0}
+LawfulFound n (Some (profile, rows)) = LawfulColumn n profile × LawfulFigure rows
 
 pub profile_in_lawful : (n : ℕ) (rows : Float) → LawfulFigure rows → (column : ℕ) (l : List ColumnProfile) → Each (LawfulColumn n) l → LawfulFound n (profile_in rows column l)
 unfolding first_with
 profile_in_lawful n rows f column [] h = tt
 profile_in_lawful n rows f column (p ∷ ps) h =
-    either (LawfulFound n) (eqb p.column column) (Present p rows) (profile_in rows column ps) (h p (Memᴰ.head refl), f) (profile_in_lawful n rows f column ps (λ x m. h x (Memᴰ.tail m)))
+    either (LawfulFound n) (eqb p.column column) (Some (p, rows)) (profile_in rows column ps) (h p (Memᴰ.head refl), f) (profile_in_lawful n rows f column ps (λ x m. h x (Memᴰ.tail m)))
 
-or_else_lawful : (n : ℕ) (x y : ProfileAndRows) → LawfulFound n x → LawfulFound n y → LawfulFound n (or_else_profile x y)
-or_else_lawful n Absent y f g = g
-or_else_lawful n (Present profile rows) y f g = f
+or_else_lawful : (n : ℕ) (x y : Option ProfileAndRows) → LawfulFound n x → LawfulFound n y → LawfulFound n (option_or x y)
+or_else_lawful n None y f g = g
+or_else_lawful n (Some (profile, rows)) y f g = f
 
 pub profile_lawful : (sheet : Sheet) → LawfulSheet sheet → (column : ℕ) → LawfulFound (length sheet.sketches) (profile_and_rows sheet column)
 unfolding profile_and_rows
@@ -68,13 +70,13 @@ no_sketch_lawful = record { population = lit≤ tt; items = λ x m. absurd (Mem�
 pub sketch_lawful : (l : List Sketch) → Each LawfulSketch l → (k : ℕ) → LawfulSketch (sketch_of l k)
 sketch_lawful l h k = at_or_default LawfulSketch l k no_sketch (each_at LawfulSketch l h k no_sketch) no_sketch_lawful
 
-abbrev pub LawfulItemFound : FoundItem → Type 0
-LawfulItemFound NoItem = Unit {0}
-LawfulItemFound (Item lower error) = (lower ≤ 2 ^ 53) × (error ≤ 2 ^ 53)
+abbrev pub LawfulItemFound : Option Counts → Type 0
+LawfulItemFound None = Unit {0}
+LawfulItemFound (Some counts) = (counts.lower ≤ 2 ^ 53) × (counts.error ≤ 2 ^ 53)
 
 pub item_lawful : (value : Scalar) (l : List SketchItem) → Each LawfulItem l → LawfulItemFound (find_item value l)
 unfolding find_item
 item_lawful value [] h = tt
 item_lawful value (x ∷ xs) h =
     let i = h x (Memᴰ.head refl) in
-    either LawfulItemFound (is_equal (scalar_order x.value value)) (Item x.lower x.error) (find_item value xs) (i.lower, i.error) (item_lawful value xs (λ y m. h y (Memᴰ.tail m)))
+    either LawfulItemFound (is_equal (scalar_order x.value value)) (Some (counts_of x)) (find_item value xs) (i.lower, i.error) (item_lawful value xs (λ y m. h y (Memᴰ.tail m)))

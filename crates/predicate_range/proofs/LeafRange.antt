@@ -1,4 +1,5 @@
 -- Estimates that stand alone: with the bounds 0 and 1, exact, and of a setting. Assumes nothing.
+use Rattle.std.specs.Prelude.{Some}
 use mathlib.Core.Path.{refl, sym, subst}
 use mathlib.Core.Logic.{inl, inr}
 use mathlib.Core.Bool.{Bool, true, false}
@@ -9,7 +10,6 @@ use lib.Ieee.Fits.{and_l, and_r}
 use lib.Ieee.Positive as Positive
 use Rattle.float.specs.Order.{f64_zero, f64_one, Unit01}
 use Rattle.float.specs.Ranges.{plus_zero, between}
-use Rattle.float.specs.Option.{some}
 use Rattle.float.proofs.RangeLaws.{plus_zero_is}
 use Rattle.float.proofs.NonNegLaws.{not_lt_le}
 use Rattle.float.proofs.UnitLaws.{zero_unit, one_unit}
@@ -45,8 +45,8 @@ from_zero x u = not_lt_le x f64_zero u.low tt (nonneg_not_below x u.low)
 pub unit_bounded : (x : Float) → Unit01 x → BoundedInUnit (unit_estimate x)
 unfolding unit_estimate derived
 unit_bounded x u =
-    let v : Unit01 (derived x (some f64_zero) (some f64_one)).value = unit_estimate_law x u.held (nonneg_ordinary x u.low) in
-    record { value = v; lower = zero_unit; upper = one_unit; has_lower = refl; has_upper = refl; above = from_zero (derived x (some f64_zero) (some f64_one)).value v; below = v.high }
+    let v : Unit01 (derived x (Some f64_zero) (Some f64_one)).value = unit_estimate_law x u.held (nonneg_ordinary x u.low) in
+    record { value = v; lower = zero_unit; upper = one_unit; has_lower = refl; has_upper = refl; above = from_zero (derived x (Some f64_zero) (Some f64_one)).value v; below = v.high }
 
 pub exact_bounded : (x : Float) → Unit01 x → BoundedInUnit (exact x)
 unfolding exact

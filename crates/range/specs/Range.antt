@@ -1,14 +1,10 @@
 -- `range_selectivity` of the source's analysis.rs: values are spread evenly from the lower bound to the upper. Definitions only.
-use Rattle.std.specs.Prelude.{cond, ◌&&◌, Float}
+use Rattle.std.specs.Prelude.{Option, None, Some, Float}
 use Rattle.std.specs.Float.{binary64}
 use Rattle.std.specs.Float.Ieee.{sub, div}
 use Rattle.float.specs.Order.{f64_one, f64_max, clamp_unit, absolute}
-use Rattle.float.specs.Option.{none}
-use Rattle.float.specs.declared.option.OptionF64.{OptionF64}
 use Rattle.scalar.specs.Number.{scalar_to_f64}
 use Rattle.scalar.specs.declared.Scalar.{Scalar}
-use Rattle.scalar.specs.declared.Bound.{Bound}
-use Rattle.scalar.specs.declared.Bound.TheVariants.{Absent, Present}
 use Rattle.estimate.specs.declared.Estimate.{Estimate}
 use Rattle.records.specs.declared.columns.ColumnProfile.{ColumnProfile}
 use Rattle.records.specs.declared.expressions.BinaryOp.{BinaryOp}
@@ -16,9 +12,9 @@ use Rattle.records.specs.declared.expressions.BinaryOp.TheVariants.{Eq, IsNotDis
 use Rattle.range.specs.Selectivity.{unit_estimate}
 
 -- the number of a bound that is there and has one
-abbrev pub bound_number : Bound → OptionF64
-bound_number Absent = none
-bound_number (Present bound) = scalar_to_f64 bound
+abbrev pub bound_number : Option Scalar → Option Float
+bound_number None = None
+bound_number (Some bound) = scalar_to_f64 bound
 
 unfoldable pub width : Float → Float → Float
 width min max = f64_max (absolute (sub binary64 max min)) f64_one
@@ -44,12 +40,12 @@ selected Multiply fallback min max value = fallback
 selected Divide fallback min max value = fallback
 
 -- by three numbers, where they are there
-unfoldable pub range_of : BinaryOp → Float → OptionF64 → OptionF64 → OptionF64 → Estimate
+unfoldable pub range_of : BinaryOp → Float → Option Float → Option Float → Option Float → Estimate
 unfolding unit_estimate selected
-range_of op fallback min max value =
-    cond (min.present && (max.present && value.present))
-    (unit_estimate (selected op fallback min.number max.number value.number))
-    (unit_estimate fallback)
+range_of op fallback None max value = unit_estimate fallback
+range_of op fallback (Some min) None value = unit_estimate fallback
+range_of op fallback (Some min) (Some max) None = unit_estimate fallback
+range_of op fallback (Some min) (Some max) (Some value) = unit_estimate (selected op fallback min max value)
 
 unfoldable pub range_selectivity : ColumnProfile → Scalar → BinaryOp → Float → Estimate
 unfolding range_of scalar_to_f64

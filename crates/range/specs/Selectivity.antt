@@ -1,9 +1,8 @@
 -- Estimates of selectivities. Definitions only.
-use Rattle.std.specs.Prelude.{cond, Float}
+use Rattle.std.specs.Prelude.{cond, Some, Float}
 use Rattle.std.specs.Float.{binary64}
 use Rattle.std.specs.Float.Ieee.{div, le}
 use Rattle.float.specs.Order.{f64_zero, f64_one, clamp_unit}
-use Rattle.float.specs.Option.{some}
 use Rattle.estimate.specs.Estimates.{derived}
 use Rattle.estimate.specs.declared.Estimate.{Estimate}
 use Rattle.sheet.specs.Sheet.{Sheet}
@@ -11,7 +10,7 @@ use Rattle.sheet.specs.Sheet.{Sheet}
 -- derived, with the bounds 0 and 1
 unfoldable pub unit_estimate : Float → Estimate
 unfolding derived
-unit_estimate value = derived value (some f64_zero) (some f64_one)
+unit_estimate value = derived value (Some f64_zero) (Some f64_one)
 
 -- where nothing is known
 unfoldable pub default_estimate : Sheet → Estimate

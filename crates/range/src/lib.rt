@@ -9,11 +9,9 @@ ghost use Rattle.range.specs.Range.{width, part_below, part_above, selected, ran
 use crate::numbers::{bound_number_at, number_at};
 use crate::selectivity::unit_estimate;
 use estimate::Estimate;
-use float::option::OptionF64;
 use float::order::{absolute, clamp_unit, f64_max};
 use layout::{COLUMN_LOWER_OFFSET, COLUMN_UPPER_OFFSET};
 use records::expressions::BinaryOp;
-use rules::both;
 
 pub mod numbers;
 pub mod selectivity;
@@ -40,33 +38,27 @@ fn selected(op: BinaryOp, fallback: f64, min: f64, max: f64, value: f64) -> f64
     ensures { result ≡ selected op fallback min max value }
 {
     match op {
-        BinaryOp::Eq => fallback,
-        BinaryOp::IsNotDistinctFrom => fallback,
-        BinaryOp::NotEq => fallback,
-        BinaryOp::Lt => part_below(min, max, value),
-        BinaryOp::LtEq => part_below(min, max, value),
-        BinaryOp::Gt => part_above(min, max, value),
-        BinaryOp::GtEq => part_above(min, max, value),
-        BinaryOp::Add => fallback,
-        BinaryOp::Subtract => fallback,
-        BinaryOp::Multiply => fallback,
-        BinaryOp::Divide => fallback,
+        BinaryOp::Lt | BinaryOp::LtEq => part_below(min, max, value),
+        BinaryOp::Gt | BinaryOp::GtEq => part_above(min, max, value),
+        _ => fallback,
     }
 }
 
 fn range_of(
     op: BinaryOp,
     fallback: f64,
-    min: OptionF64,
-    max: OptionF64,
-    value: OptionF64,
+    min: Option<f64>,
+    max: Option<f64>,
+    value: Option<f64>,
 ) -> Estimate
     ensures { result ≡ range_of op fallback min max value }
 {
-    if both(min.present, both(max.present, value.present)) {
-        return unit_estimate(selected(op, fallback, min.number, max.number, value.number));
+    match (min, max, value) {
+        (Some(min), Some(max), Some(value)) => {
+            unit_estimate(selected(op, fallback, min, max, value))
+        }
+        _ => unit_estimate(fallback),
     }
-    unit_estimate(fallback)
 }
 
 // Of the profile at a place, against the scalar at a place.

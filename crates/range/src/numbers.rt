@@ -5,7 +5,6 @@ ghost use Rattle.scalar_bytes.specs.Reading.{scalar_at, bound_at};
 ghost use Rattle.range.specs.Range.{bound_number};
 
 use float::integers::nearest_i64;
-use float::option::{OptionF64, none, some};
 use float::tens::power_of_ten;
 use layout::{DECIMAL_DIGITS_OFFSET, DECIMAL_SCALE_OFFSET, SCALAR_VALUE_OFFSET};
 use le::floats::f64_at;
@@ -14,27 +13,26 @@ use le::reads::byte_at;
 use signed::i32_to_i64;
 
 // By its tag.
-pub fn number_at(s: &[u8], at: usize) -> OptionF64
+pub fn number_at(s: &[u8], at: usize) -> Option<f64>
     requires { at < 2 ^ 60 }
     ensures { result ≡ scalar_to_f64 (scalar_at s.now at) }
 {
     let tag = byte_at(s, at);
     let value = SCALAR_VALUE_OFFSET;
     match tag {
-        2 => some(nearest_i64(i32_to_i64(i32_at(s, at + value)))),
-        3 => some(nearest_i64(i64_at(s, at + value))),
-        4 => some(f64_at(s, at + value)),
-        5 => some(
+        2 | 6 => Some(nearest_i64(i32_to_i64(i32_at(s, at + value)))),
+        3 => Some(nearest_i64(i64_at(s, at + value))),
+        4 => Some(f64_at(s, at + value)),
+        5 => Some(
             nearest_i64(i64_at(s, at + (value + DECIMAL_DIGITS_OFFSET)))
                 / power_of_ten(byte_at(s, at + (value + DECIMAL_SCALE_OFFSET))),
         ),
-        6 => some(nearest_i64(i32_to_i64(i32_at(s, at + value)))),
-        _ => none(),
+        _ => None,
     }
 }
 
 // Of a bound, which has no number where it is absent.
-pub fn bound_number_at(s: &[u8], at: usize) -> OptionF64
+pub fn bound_number_at(s: &[u8], at: usize) -> Option<f64>
     requires { at < 2 ^ 60 }
     ensures { result ≡ bound_number (bound_at s.now at) }
 {

@@ -6,7 +6,6 @@ ghost use Rattle.sheet.specs.Sheet.{sheet_of};
 ghost use Rattle.range.specs.Selectivity.{unit_estimate, default_estimate, non_null_fraction};
 
 use estimate::Estimate;
-use float::option::some;
 use float::order::clamp_unit;
 use layout::{COUNT_SIZE, DEFAULT_PREDICATE_SELECTIVITY_OFFSET, RANGE_FALLBACK_SELECTIVITY_OFFSET};
 use le::floats::f64_at;
@@ -15,7 +14,7 @@ use sheet::Sections;
 pub fn unit_estimate(value: f64) -> Estimate
     ensures { result ≡ unit_estimate value }
 {
-    Estimate::derived(value, some(0.0), some(1.0))
+    Estimate::derived(value, Some(0.0), Some(1.0))
 }
 
 pub fn default_predicate_selectivity(s: &[u8], q: Sections) -> f64

@@ -7,6 +7,7 @@ use native.Mathlib.Omega.{arith}
 use lib.Dec.{eqb, ltb}
 use lib.ListN.{length, take, drop}
 use borrow.Author.Tests.{eqb-true, eqb-false, ne_eqb, ltb-true, lt-ltb}
+use Rattle.std.specs.Prelude.{Option, Some, None}
 use Rattle.le.specs.Fields.{u16_at, field_bytes}
 use Rattle.le.proofs.FieldLaws.{Bytes, field_below, bytes_back}
 use Rattle.rules.specs.Rules.{ask}
@@ -16,18 +17,14 @@ use Rattle.layout.specs.Fields.{size_of, bytes_of, no_rule}
 use Rattle.layout.specs.Lawful.{LawfulField, as_field}
 use Rattle.layout.proofs.LayoutLaws.{EachField, ◌and◌, sizes, record_kept, record_accepted, record_room, stands, written, record_lawful, group_lawful, sized_lawful, sized_read}
 use Rattle.scalar.specs.declared.Scalar.TheVariants.{Null, Boolean, Int32, Int64, Float64, Decimal128, Date32, IntervalMonthDayNano, IntervalDayTime}
-use Rattle.scalar.specs.declared.Bound.{Bound}
-use Rattle.scalar.specs.declared.Bound.TheVariants.{Absent as NoBound, Present as Given}
+use Rattle.scalar.specs.declared.Scalar.{Scalar}
 use Rattle.scalar_bytes.specs.Encoding.{place_allows}
 use Rattle.scalar_bytes.specs.declared.reads.ScalarPlace.TheVariants.{Bound as AtBound}
 use Rattle.scalar_bytes.proofs.EncodingLaws as Scalars
 use Rattle.scalar_bytes.proofs.FieldLaws.{bound_lawful, bound_read, bound_accepted}
 use Rattle.estimate.proofs.EstimateLaws.{part_lawful, estimate_read, estimate_accepted, estimate_written, accepted_lawful}
-use Rattle.records.specs.Columns.{base_column_at, sketch_number_at, column_profile_at}
+use Rattle.records.specs.Columns.{column_of, base_column_at, sketch_number_at, column_profile_at}
 use Rattle.records.specs.declared.columns.BaseColumn.{BaseColumn}
-use Rattle.records.specs.declared.columns.BaseColumn.TheVariants.{Absent, Present}
-use Rattle.records.specs.declared.columns.SketchNumber.{SketchNumber}
-use Rattle.records.specs.declared.columns.SketchNumber.TheVariants.{Absent as NoSketch, Present as Sketch}
 use Rattle.records.specs.declared.columns.ColumnProfile.{ColumnProfile}
 use Rattle.record_rules.specs.Fields.{ascending, is_none}
 use Rattle.record_rules.specs.Columns.{column_number_refusal, sketch_number_refusal, base_table, base_column, base_fields, sketch_number, column_fields, column_refusal}
@@ -36,49 +33,49 @@ use Rattle.record_rules.proofs.RoomLaws.{column_below}
 
 -- ---- base and sketch
 
-table_small : (b : BaseColumn) → LawfulBase b → base_table b < 2 ^ 16
-table_small Absent h = omega arith
-table_small (Present table column) h = let a = h.0 in omega arith
+table_small : (b : Option BaseColumn) → LawfulBase b → base_table b < 2 ^ 16
+table_small None h = omega arith
+table_small (Some base) h = let a = h.0 in omega arith
 
-name_small : (b : BaseColumn) → LawfulBase b → base_column b < 2 ^ 16
-name_small Absent h = omega arith
-name_small (Present table column) h = let a = h.1 in omega arith
+name_small : (b : Option BaseColumn) → LawfulBase b → base_column b < 2 ^ 16
+name_small None h = omega arith
+name_small (Some base) h = let a = h.1 in omega arith
 
-sketch_small : (n : ℕ) (x : SketchNumber) → LawfulSketchNumber n x → sketch_number x < 2 ^ 16
-sketch_small n NoSketch h = omega arith
-sketch_small n (Sketch i) h = let a = h.1 in omega arith
+sketch_small : (n : ℕ) (x : Option ℕ) → LawfulSketchNumber n x → sketch_number x < 2 ^ 16
+sketch_small n None h = omega arith
+sketch_small n (Some i) h = let a = h.1 in omega arith
 
 not_none : (n : ℕ) → n < 0xffff → is_none n ≡ false
 not_none n h = ne_eqb n 0xffff (λ (e : n ≡ 0xffff). omega arith)
 
-base_read : (x : BaseColumn) → LawfulBase x → cond (is_none (base_table x)) Absent (Present (base_table x) (base_column x)) ≡ x
-base_read Absent h = refl
-base_read (Present table column) h = ap (λ (t : Bool). cond t Absent (Present table column)) (not_none table h.0)
+base_read : (x : Option BaseColumn) → LawfulBase x → cond (is_none (base_table x)) None (Some (column_of (base_table x) (base_column x))) ≡ x
+base_read None h = refl
+base_read (Some base) h = ap (λ (t : Bool). cond t None (Some base)) (not_none base.table h.0)
 
-base_kept : (x : BaseColumn) → LawfulBase x → beq (is_none (base_table x)) (is_none (base_column x)) ≡ true
-base_kept Absent h = refl
-base_kept (Present table column) h = λ i. beq (not_none table h.0 i) (not_none column h.1 i)
+base_kept : (x : Option BaseColumn) → LawfulBase x → beq (is_none (base_table x)) (is_none (base_column x)) ≡ true
+base_kept None h = refl
+base_kept (Some base) h = λ i. beq (not_none base.table h.0 i) (not_none base.column h.1 i)
 
-sketch_read : (n : ℕ) (x : SketchNumber) → LawfulSketchNumber n x → cond (is_none (sketch_number x)) NoSketch (Sketch (sketch_number x)) ≡ x
-sketch_read n NoSketch h = refl
-sketch_read n (Sketch i) h = ap (λ (t : Bool). cond t NoSketch (Sketch i)) (not_none i h.1)
+sketch_read : (n : ℕ) (x : Option ℕ) → LawfulSketchNumber n x → cond (is_none (sketch_number x)) None (Some (sketch_number x)) ≡ x
+sketch_read n None h = refl
+sketch_read n (Some i) h = ap (λ (t : Bool). cond t None (Some i)) (not_none i h.1)
 
-sketch_kept : (n : ℕ) (x : SketchNumber) → LawfulSketchNumber n x → (is_none (sketch_number x) || ltb (sketch_number x) n) ≡ true
-sketch_kept n NoSketch h = refl
-sketch_kept n (Sketch i) h = λ j. not_none i h.1 j || lt-ltb i n h.0 j
+sketch_kept : (n : ℕ) (x : Option ℕ) → LawfulSketchNumber n x → (is_none (sketch_number x) || ltb (sketch_number x) n) ≡ true
+sketch_kept n None h = refl
+sketch_kept n (Some i) h = λ j. not_none i h.1 j || lt-ltb i n h.0 j
 
-sketch_back : (n : ℕ) → sketch_number (cond (eqb n 0xffff) NoSketch (Sketch n)) ≡ n
+sketch_back : (n : ℕ) → sketch_number (cond (eqb n 0xffff) None (Some n)) ≡ n
 sketch_back n = go (eqb n 0xffff) (eqb-true n 0xffff)
   where
-    go : (t : Bool) → (t ≡ true → n ≡ 0xffff) → sketch_number (cond t NoSketch (Sketch n)) ≡ n
+    go : (t : Bool) → (t ≡ true → n ≡ 0xffff) → sketch_number (cond t None (Some n)) ≡ n
     go true h = sym (h refl)
     go false h = refl
 
 -- both there, or neither
-base_back : (a b : ℕ) → beq (is_none a) (is_none b) ≡ true → (base_table (cond (eqb a 0xffff) Absent (Present a b)) ≡ a) × (base_column (cond (eqb a 0xffff) Absent (Present a b)) ≡ b)
+base_back : (a b : ℕ) → beq (is_none a) (is_none b) ≡ true → (base_table (cond (eqb a 0xffff) None (Some (column_of a b))) ≡ a) × (base_column (cond (eqb a 0xffff) None (Some (column_of a b))) ≡ b)
 base_back a b = go (eqb a 0xffff) (eqb b 0xffff) (eqb-true a 0xffff) (eqb-true b 0xffff)
   where
-    go : (t u : Bool) → (t ≡ true → a ≡ 0xffff) → (u ≡ true → b ≡ 0xffff) → beq t u ≡ true → (base_table (cond t Absent (Present a b)) ≡ a) × (base_column (cond t Absent (Present a b)) ≡ b)
+    go : (t u : Bool) → (t ≡ true → a ≡ 0xffff) → (u ≡ true → b ≡ 0xffff) → beq t u ≡ true → (base_table (cond t None (Some (column_of a b))) ≡ a) × (base_column (cond t None (Some (column_of a b))) ≡ b)
     go true true h k e = (sym (h refl), sym (k refl))
     go true false h k e = absurd (false≢true e)
     go false u h k e = (refl, refl)
@@ -86,33 +83,20 @@ base_back a b = go (eqb a 0xffff) (eqb b 0xffff) (eqb-true a 0xffff) (eqb-true b
 some_below : (n : ℕ) → n < 2 ^ 16 → is_none n ≡ false → n < 0xffff
 some_below n h e = let f = eqb-false n 0xffff e in omega arith
 
-base_lawful : (a b : ℕ) → a < 2 ^ 16 → b < 2 ^ 16 → beq (is_none a) (is_none b) ≡ true → LawfulBase (cond (eqb a 0xffff) Absent (Present a b))
+base_lawful : (a b : ℕ) → a < 2 ^ 16 → b < 2 ^ 16 → beq (is_none a) (is_none b) ≡ true → LawfulBase (cond (eqb a 0xffff) None (Some (column_of a b)))
 base_lawful a b h k = go (eqb a 0xffff) (eqb b 0xffff) (some_below a h) (some_below b k)
   where
-    go : (t u : Bool) → (t ≡ false → a < 0xffff) → (u ≡ false → b < 0xffff) → beq t u ≡ true → LawfulBase (cond t Absent (Present a b))
+    go : (t u : Bool) → (t ≡ false → a < 0xffff) → (u ≡ false → b < 0xffff) → beq t u ≡ true → LawfulBase (cond t None (Some (column_of a b)))
     go true u f g e = tt
     go false true f g e = absurd (false≢true e)
     go false false f g e = (f refl, g refl)
 
-sketch_lawful : (n i : ℕ) → i < 2 ^ 16 → (is_none i || ltb i n) ≡ true → LawfulSketchNumber n (cond (eqb i 0xffff) NoSketch (Sketch i))
+sketch_lawful : (n i : ℕ) → i < 2 ^ 16 → (is_none i || ltb i n) ≡ true → LawfulSketchNumber n (cond (eqb i 0xffff) None (Some i))
 sketch_lawful n i h = go (eqb i 0xffff) (some_below i h)
   where
-    go : (t : Bool) → (t ≡ false → i < 0xffff) → (t || ltb i n) ≡ true → LawfulSketchNumber n (cond t NoSketch (Sketch i))
+    go : (t : Bool) → (t ≡ false → i < 0xffff) → (t || ltb i n) ≡ true → LawfulSketchNumber n (cond t None (Some i))
     go true f e = tt
     go false f e = (ltb-true i n e, f refl)
-
-bound_allowed : (x : Bound) → place_allows AtBound x ≡ true
-unfolding place_allows
-bound_allowed NoBound = refl
-bound_allowed (Given Null) = refl
-bound_allowed (Given (Boolean b)) = refl
-bound_allowed (Given (Int32 x)) = refl
-bound_allowed (Given (Int64 x)) = refl
-bound_allowed (Given (Float64 x)) = refl
-bound_allowed (Given (Decimal128 value precision scale)) = refl
-bound_allowed (Given (Date32 x)) = refl
-bound_allowed (Given (IntervalMonthDayNano months days nanoseconds)) = refl
-bound_allowed (Given (IntervalDayTime days milliseconds)) = refl
 
 -- ---- the size and the order
 
@@ -214,8 +198,8 @@ module _ (n : ℕ) (x : ColumnProfile) (s t : List ℕ) (at : ℕ) (lawful : Law
       let r = fields_read in
       let lower = (stands column_fields (sizes (LawfulColumn n) column_fields (column_fields_law n)) x s t at 0 e).1.1 in
       let frequency = lower.1.1 in
-      let based = (λ i. cond (is_none (r.table i)) Absent (Present (r.table i) (r.name i))) ∙ base_read x.base lawful.base in
-      let sketched = (λ i. cond (is_none (r.sketch i)) NoSketch (Sketch (r.sketch i))) ∙ sketch_read n x.sketch lawful.sketch in
+      let based = (λ i. cond (is_none (r.table i)) None (Some (column_of (r.table i) (r.name i)))) ∙ base_read x.base lawful.base in
+      let sketched = (λ i. cond (is_none (r.sketch i)) None (Some (r.sketch i))) ∙ sketch_read n x.sketch lawful.sketch in
       let low = bound_read s (at + column_lower_offset) x.lower lower.0.0 lawful.lower lower.0.1 in
       let high = bound_read s (at + column_upper_offset) x.upper lower.1.0.0 lawful.upper lower.1.0.1 in
       let often = estimate_read x.frequency s frequency.0.0 (at + column_frequency_offset) lawful.frequency frequency.0.1 in
@@ -235,8 +219,8 @@ module _ (n : ℕ) (x : ColumnProfile) (s t : List ℕ) (at : ℕ) (lawful : Law
       record_accepted column_fields (sizes (LawfulColumn n) column_fields (column_fields_law n)) (record { sketches = n; i = i }) x s t at e
       (number_kept i a
       and (λ j. ask (beq (is_none (r.table j)) (is_none (r.name j))) 6) ∙ ap (λ (b : Bool). ask b 6) (base_kept x.base lawful.base)
-      and bound_accepted s (at + column_lower_offset) AtBound x.lower lower.0.0 lawful.lower (bound_allowed x.lower) lower.0.1
-      and bound_accepted s (at + column_upper_offset) AtBound x.upper lower.1.0.0 lawful.upper (bound_allowed x.upper) lower.1.0.1
+      and bound_accepted s (at + column_lower_offset) AtBound x.lower lower.0.0 lawful.lower (Scalars.bound_allows x.lower) lower.0.1
+      and bound_accepted s (at + column_upper_offset) AtBound x.upper lower.1.0.0 lawful.upper (Scalars.bound_allows x.upper) lower.1.0.1
       and estimate_accepted x.frequency s frequency.0.0 (at + column_frequency_offset) lawful.frequency frequency.0.1
       and estimate_accepted x.distinct s frequency.1.0.0 (at + column_distinct_offset) lawful.distinct frequency.1.0.1
       and ap (sketch_number_refusal n) r.sketch ∙ ap (λ (b : Bool). ask b 8) (sketch_kept n x.sketch lawful.sketch)

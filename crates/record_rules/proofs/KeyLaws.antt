@@ -15,6 +15,7 @@ use Rattle.layout.specs.Places.{number_size, key_table_offset, key_column_offset
 use Rattle.layout.specs.Fields.{size_of, bytes_of, no_rule}
 use Rattle.layout.specs.Lawful.{LawfulField, as_field}
 use Rattle.layout.proofs.LayoutLaws.{EachField, ◌and◌, sizes, record_accepted, record_kept, record_room, stands, written, record_lawful, sized_lawful, sized_read, byte_read, byte_back, byte_lawful}
+use Rattle.records.specs.Columns.{column_of}
 use Rattle.records.specs.Catalog.{key_at}
 use Rattle.records.specs.declared.catalog.Key.{Key}
 use Rattle.records.specs.declared.catalog.Key.TheVariants.{Unique, Foreign}
@@ -57,23 +58,23 @@ fields_read x s t at h e =
       referenced_column = sized_read {C = ℕ} number_size key_referenced_column no_rule x s (at + key_referenced_column_offset) h.referenced_column fields.1.1.1.1.0;
     }
 
-key_back : (x : Key) → cond (eqb (key_kind x) 1) (Unique (key_table x) (key_column x)) (Foreign (key_table x) (key_column x) (key_referenced_table x) (key_referenced_column x)) ≡ x
-key_back (Unique table column) = refl
-key_back (Foreign table column referenced name) = refl
+key_back : (x : Key) → cond (eqb (key_kind x) 1) (Unique (column_of (key_table x) (key_column x))) (Foreign (column_of (key_table x) (key_column x)) (column_of (key_referenced_table x) (key_referenced_column x))) ≡ x
+key_back (Unique column) = refl
+key_back (Foreign column referenced) = refl
 
 pub key_read : (x : Key) (s t : List ℕ) (at : ℕ) → LawfulKey x → drop at s ≡ bytes_of key_fields x ++ t → key_at s at ≡ x
 unfolding key_at
 key_read x s t at h e =
     let r = fields_read x s t at h e in
-    (λ i. cond (eqb (r.kind i) 1) (Unique (r.table i) (r.column i)) (Foreign (r.table i) (r.column i) (r.referenced_table i) (r.referenced_column i))) ∙ key_back x
+    (λ i. cond (eqb (r.kind i) 1) (Unique (column_of (r.table i) (r.column i))) (Foreign (column_of (r.table i) (r.column i)) (column_of (r.referenced_table i) (r.referenced_column i)))) ∙ key_back x
 
 referenced_kept : (x : Key) → (ask (eqb (key_kind x) 2 || is_none (key_referenced_table x)) 6 ≡ 0) × (ask (eqb (key_kind x) 2 || is_none (key_referenced_column x)) 6 ≡ 0)
-referenced_kept (Unique table column) = (refl, refl)
-referenced_kept (Foreign table column referenced name) = (refl, refl)
+referenced_kept (Unique column) = (refl, refl)
+referenced_kept (Foreign column referenced) = (refl, refl)
 
 kind_kept : (x : Key) → ask (eqb (key_kind x) 1 || eqb (key_kind x) 2) 6 ≡ 0
-kind_kept (Unique table column) = refl
-kind_kept (Foreign table column referenced name) = refl
+kind_kept (Unique column) = refl
+kind_kept (Foreign column referenced) = refl
 
 pub key_accepted : (x : Key) (s t : List ℕ) (at : ℕ) → LawfulKey x → drop at s ≡ bytes_of key_fields x ++ t → key_refusal s at ≡ 0
 unfolding key_refusal
@@ -97,10 +98,10 @@ record Back (k a b c d : ℕ) (x : Key) : Type 0 where
   referenced_table : key_referenced_table x ≡ c
   referenced_column : key_referenced_column x ≡ d
 
-fields_back : (k a b c d : ℕ) → (eqb k 1 || eqb k 2) ≡ true → (eqb k 2 || is_none c) ≡ true → (eqb k 2 || is_none d) ≡ true → Back k a b c d (cond (eqb k 1) (Unique a b) (Foreign a b c d))
+fields_back : (k a b c d : ℕ) → (eqb k 1 || eqb k 2) ≡ true → (eqb k 2 || is_none c) ≡ true → (eqb k 2 || is_none d) ≡ true → Back k a b c d (cond (eqb k 1) (Unique (column_of a b)) (Foreign (column_of a b) (column_of c d)))
 fields_back k a b c d = go (eqb k 1) (eqb k 2) (is_none c) (is_none d) (eqb-true k 1) (eqb-true k 2) (eqb-true c 0xffff) (eqb-true d 0xffff)
   where
-    go : (t u v w : Bool) → (t ≡ true → k ≡ 1) → (u ≡ true → k ≡ 2) → (v ≡ true → c ≡ 0xffff) → (w ≡ true → d ≡ 0xffff) → (t || u) ≡ true → (u || v) ≡ true → (u || w) ≡ true → Back k a b c d (cond t (Unique a b) (Foreign a b c d))
+    go : (t u v w : Bool) → (t ≡ true → k ≡ 1) → (u ≡ true → k ≡ 2) → (v ≡ true → c ≡ 0xffff) → (w ≡ true → d ≡ 0xffff) → (t || u) ≡ true → (u || v) ≡ true → (u || w) ≡ true → Back k a b c d (cond t (Unique (column_of a b)) (Foreign (column_of a b) (column_of c d)))
     go true true v w e f g h p q r = let x = e refl in let y = f refl in absurd (omega arith)
     go true false v w e f g h p q r = record { kind = sym (e refl); table = refl; column = refl; referenced_table = sym (g q); referenced_column = sym (h r) }
     go false u v w e f g h p q r = record { kind = sym (f p); table = refl; column = refl; referenced_table = refl; referenced_column = refl }

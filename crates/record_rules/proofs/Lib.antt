@@ -1,3 +1,4 @@
+pub mod LoopLaws
 pub mod RoomLaws
 pub mod RowLaws
 pub mod TableLaws

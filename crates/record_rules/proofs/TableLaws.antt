@@ -7,6 +7,7 @@ use native.Mathlib.Omega.{arith}
 use lib.Dec.{leb, eqb}
 use lib.ListN.{length, take, drop}
 use borrow.Author.Tests.{eqb-true, ne_eqb, leb-true, le-leb}
+use Rattle.std.specs.Prelude.{Option, Some, None}
 use Rattle.le.specs.Fields.{u16_at, u64_at, field_bytes}
 use Rattle.le.proofs.FieldLaws.{Bytes, field_below, bytes_back}
 use Rattle.layout.specs.Places.{count_limit, number_size, wide_size, table_rows_offset, table_size}
@@ -14,8 +15,6 @@ use Rattle.layout.specs.Fields.{size_of, bytes_of, no_rule}
 use Rattle.layout.specs.Lawful.{LawfulField, as_field}
 use Rattle.layout.proofs.LayoutLaws.{EachField, ◌and◌, sizes, record_kept, record_accepted, record_room, stands, written, record_lawful, sized_lawful, sized_read}
 use Rattle.records.specs.Catalog.{row_count_of, table_at}
-use Rattle.records.specs.declared.catalog.RowCount.{RowCount}
-use Rattle.records.specs.declared.catalog.RowCount.TheVariants.{Unknown, Known}
 use Rattle.records.specs.declared.catalog.Table.{Table}
 use Rattle.rules.specs.Rules.{ask}
 use Rattle.rules.proofs.RuleLaws.{ask_kept}
@@ -25,29 +24,29 @@ use Rattle.record_rules.specs.Lawful.{LawfulRowCount, LawfulTable}
 
 -- ---- a number of rows
 
-row_count_small : (r : RowCount) → LawfulRowCount r → row_count_number r < 2 ^ 64
-row_count_small Unknown h = omega arith
-row_count_small (Known n) h = omega arith
+row_count_small : (r : Option ℕ) → LawfulRowCount r → row_count_number r < 2 ^ 64
+row_count_small None h = omega arith
+row_count_small (Some n) h = omega arith
 
-row_count_read : (r : RowCount) → LawfulRowCount r → row_count_of (row_count_number r) ≡ r
-row_count_read Unknown h = refl
-row_count_read (Known n) h = ap (λ (t : Bool). cond t Unknown (Known n)) (ne_eqb n 0xffff_ffff_ffff_ffff (λ (e : n ≡ 0xffff_ffff_ffff_ffff). omega arith))
+row_count_read : (r : Option ℕ) → LawfulRowCount r → row_count_of (row_count_number r) ≡ r
+row_count_read None h = refl
+row_count_read (Some n) h = ap (λ (t : Bool). cond t None (Some n)) (ne_eqb n 0xffff_ffff_ffff_ffff (λ (e : n ≡ 0xffff_ffff_ffff_ffff). omega arith))
 
-row_count_kept : (r : RowCount) → LawfulRowCount r → ask (row_count_lawful (row_count_number r)) 4 ≡ 0
-row_count_kept Unknown h = refl
-row_count_kept (Known n) h = ap (λ (t : Bool). ask (t || eqb n 0xffff_ffff_ffff_ffff) 4) (le-leb n count_limit h)
+row_count_kept : (r : Option ℕ) → LawfulRowCount r → ask (row_count_lawful (row_count_number r)) 4 ≡ 0
+row_count_kept None h = refl
+row_count_kept (Some n) h = ap (λ (t : Bool). ask (t || eqb n 0xffff_ffff_ffff_ffff) 4) (le-leb n count_limit h)
 
 row_count_back : (n : ℕ) → row_count_number (row_count_of n) ≡ n
 row_count_back n = go (eqb n 0xffff_ffff_ffff_ffff) (eqb-true n 0xffff_ffff_ffff_ffff)
   where
-    go : (t : Bool) → (t ≡ true → n ≡ 0xffff_ffff_ffff_ffff) → row_count_number (cond t Unknown (Known n)) ≡ n
+    go : (t : Bool) → (t ≡ true → n ≡ 0xffff_ffff_ffff_ffff) → row_count_number (cond t None (Some n)) ≡ n
     go true h = sym (h refl)
     go false h = refl
 
 row_count_lawful_law : (n : ℕ) → row_count_lawful n ≡ true → LawfulRowCount (row_count_of n)
 row_count_lawful_law n = go (leb n count_limit) (eqb n 0xffff_ffff_ffff_ffff) (leb-true n count_limit)
   where
-    go : (t u : Bool) → (t ≡ true → n ≤ count_limit) → (t || u) ≡ true → LawfulRowCount (cond u Unknown (Known n))
+    go : (t u : Bool) → (t ≡ true → n ≤ count_limit) → (t || u) ≡ true → LawfulRowCount (cond u None (Some n))
     go t true h e = tt
     go true false h e = h refl
     go false false h e = absurd (false≢true e)

@@ -1,11 +1,9 @@
 -- The fields of tables and keys. Definitions only.
-use Rattle.std.specs.Prelude.{ℕ, Bool, ◌||◌, List, [], ◌∷◌, eqb}
+use Rattle.std.specs.Prelude.{ℕ, Bool, ◌||◌, List, [], ◌∷◌, eqb, Option, Some, None}
 use Rattle.le.specs.Fields.{byte_at, u16_at, u64_at}
 use Rattle.rules.specs.Rules.{ask}
 use Rattle.layout.specs.Places.{table_size}
 use Rattle.layout.specs.Fields.{Field, byte, number, wide, no_rule, fields_refusal}
-use Rattle.records.specs.declared.catalog.RowCount.{RowCount}
-use Rattle.records.specs.declared.catalog.RowCount.TheVariants.{Unknown, Known}
 use Rattle.records.specs.declared.catalog.Table.{Table}
 use Rattle.records.specs.declared.catalog.Key.{Key}
 use Rattle.records.specs.declared.catalog.Key.TheVariants.{Unique, Foreign}
@@ -17,9 +15,9 @@ use Rattle.record_rules.specs.Fields.{ascending, count_lawful, is_none}
 abbrev pub row_count_lawful : ℕ → Bool
 row_count_lawful n = count_lawful n || eqb n 0xffff_ffff_ffff_ffff
 
-abbrev pub row_count_number : RowCount → ℕ
-row_count_number Unknown = 0xffff_ffff_ffff_ffff
-row_count_number (Known n) = n
+abbrev pub row_count_number : Option ℕ → ℕ
+row_count_number None = 0xffff_ffff_ffff_ffff
+row_count_number (Some n) = n
 
 -- table i
 abbrev pub table_fields : List (Field ℕ Table)
@@ -35,24 +33,24 @@ table_refusal s i = fields_refusal table_fields i s
 -- ---- keys; a unique one references nothing
 
 abbrev pub key_kind : Key → ℕ
-key_kind (Unique table column) = 1
-key_kind (Foreign table column referenced name) = 2
+key_kind (Unique column) = 1
+key_kind (Foreign column referenced) = 2
 
 abbrev pub key_table : Key → ℕ
-key_table (Unique table column) = table
-key_table (Foreign table column referenced name) = table
+key_table (Unique column) = column.table
+key_table (Foreign column referenced) = column.table
 
 abbrev pub key_column : Key → ℕ
-key_column (Unique table column) = column
-key_column (Foreign table column referenced name) = column
+key_column (Unique column) = column.column
+key_column (Foreign column referenced) = column.column
 
 abbrev pub key_referenced_table : Key → ℕ
-key_referenced_table (Unique table column) = 0xffff
-key_referenced_table (Foreign table column referenced name) = referenced
+key_referenced_table (Unique column) = 0xffff
+key_referenced_table (Foreign column referenced) = referenced.table
 
 abbrev pub key_referenced_column : Key → ℕ
-key_referenced_column (Unique table column) = 0xffff
-key_referenced_column (Foreign table column referenced name) = name
+key_referenced_column (Unique column) = 0xffff
+key_referenced_column (Foreign column referenced) = referenced.column
 
 abbrev pub referenced_refusal : ℕ → List ℕ → ℕ → ℕ
 referenced_refusal kind s at = ask (eqb kind 2 || is_none (u16_at s at)) 6

@@ -1,5 +1,5 @@
 -- The fields of columns' profiles. Definitions only.
-use Rattle.std.specs.Prelude.{ℕ, ◌+◌, ◌&&◌, ◌||◌, List, [], ◌∷◌, ltb}
+use Rattle.std.specs.Prelude.{ℕ, ◌+◌, ◌&&◌, ◌||◌, List, [], ◌∷◌, ltb, Option, Some, None}
 use Rattle.std.specs.Bool.{beq}
 use Rattle.le.specs.Fields.{u16_at}
 use Rattle.rules.specs.Rules.{ask}
@@ -10,9 +10,6 @@ use Rattle.scalar_bytes.specs.Fields.{bound}
 use Rattle.scalar_bytes.specs.declared.reads.ScalarPlace.TheVariants.{Bound}
 use Rattle.estimate.specs.Bytes.{estimate_refusal, estimate}
 use Rattle.records.specs.declared.columns.BaseColumn.{BaseColumn}
-use Rattle.records.specs.declared.columns.BaseColumn.TheVariants.{Absent, Present}
-use Rattle.records.specs.declared.columns.SketchNumber.{SketchNumber}
-use Rattle.records.specs.declared.columns.SketchNumber.TheVariants.{Absent as NoSketch, Present as Sketch}
 use Rattle.records.specs.declared.columns.ColumnProfile.{ColumnProfile}
 use Rattle.record_rules.specs.Fields.{ascending, is_none}
 
@@ -33,22 +30,22 @@ sketch_number_refusal sketches n = ask (is_none n || ltb n sketches) 8
 
 -- ---- the base
 
-abbrev pub base_table : BaseColumn → ℕ
-base_table Absent = 0xffff
-base_table (Present table column) = table
+abbrev pub base_table : Option BaseColumn → ℕ
+base_table None = 0xffff
+base_table (Some base) = base.table
 
-abbrev pub base_column : BaseColumn → ℕ
-base_column Absent = 0xffff
-base_column (Present table column) = column
+abbrev pub base_column : Option BaseColumn → ℕ
+base_column None = 0xffff
+base_column (Some base) = base.column
 
-abbrev pub base_fields : List (Field (Unit {0}) BaseColumn)
+abbrev pub base_fields : List (Field (Unit {0}) (Option BaseColumn))
 base_fields = number base_table no_rule ∷ number base_column no_rule ∷ []
 
 -- ---- the record
 
-abbrev pub sketch_number : SketchNumber → ℕ
-sketch_number NoSketch = 0xffff
-sketch_number (Sketch n) = n
+abbrev pub sketch_number : Option ℕ → ℕ
+sketch_number None = 0xffff
+sketch_number (Some n) = n
 
 -- column i of a side, on a sheet of so many sketches
 pub record ColumnPlace : Type 0 where

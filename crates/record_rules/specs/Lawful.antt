@@ -1,18 +1,13 @@
 -- What is lawful as a record: it has room in its fields, and keeps the rules that it can keep by itself. Definitions only.
-use Rattle.std.specs.Prelude.{ℕ, ◌^◌, ◌≤◌, ◌<◌, ◌≡◌, true, T, Float}
+use Rattle.std.specs.Prelude.{ℕ, ◌^◌, ◌≤◌, ◌<◌, ◌≡◌, true, T, Float, Option, Some, None}
 use Rattle.std.specs.Float.{binary64}
 use Rattle.std.specs.Float.Ieee.{fits}
 use Rattle.layout.specs.Places.{column_limit, count_limit, class_least, class_most}
 use Rattle.scalar_bytes.specs.Encoding.{lawful_bound}
 use Rattle.estimate.specs.Bytes.{LawfulEstimate}
-use Rattle.records.specs.declared.catalog.RowCount.{RowCount}
-use Rattle.records.specs.declared.catalog.RowCount.TheVariants.{Unknown, Known}
 use Rattle.records.specs.declared.catalog.Table.{Table}
 use Rattle.records.specs.declared.catalog.Key.{Key}
 use Rattle.records.specs.declared.columns.BaseColumn.{BaseColumn}
-use Rattle.records.specs.declared.columns.BaseColumn.TheVariants.{Absent, Present}
-use Rattle.records.specs.declared.columns.SketchNumber.{SketchNumber}
-use Rattle.records.specs.declared.columns.SketchNumber.TheVariants.{Absent as NoSketch, Present as Sketch}
 use Rattle.records.specs.declared.columns.ColumnProfile.{ColumnProfile}
 use Rattle.records.specs.declared.classes.ClassHead.{ClassHead}
 use Rattle.record_rules.specs.Rows.{setting_lawful}
@@ -27,9 +22,9 @@ pub record LawfulSetting (i : ℕ) (x : Float) : Type 0 where
 
 -- ---- tables and keys
 
-abbrev pub LawfulRowCount : RowCount → Type 0
-LawfulRowCount Unknown = Unit {0}
-LawfulRowCount (Known n) = n ≤ count_limit
+abbrev pub LawfulRowCount : Option ℕ → Type 0
+LawfulRowCount None = Unit {0}
+LawfulRowCount (Some n) = n ≤ count_limit
 
 pub record LawfulTable (x : Table) : Type 0 where
   pub table : x.table < 2 ^ 16
@@ -44,14 +39,14 @@ pub record LawfulKey (x : Key) : Type 0 where
 
 -- ---- columns
 
-abbrev pub LawfulBase : BaseColumn → Type 0
-LawfulBase Absent = Unit {0}
-LawfulBase (Present table column) = (table < 0xffff) × (column < 0xffff)
+abbrev pub LawfulBase : Option BaseColumn → Type 0
+LawfulBase None = Unit {0}
+LawfulBase (Some base) = (base.table < 0xffff) × (base.column < 0xffff)
 
 -- one of n sketches
-abbrev pub LawfulSketchNumber : ℕ → SketchNumber → Type 0
-LawfulSketchNumber n NoSketch = Unit {0}
-LawfulSketchNumber n (Sketch i) = (i < n) × (i < 0xffff)
+abbrev pub LawfulSketchNumber : ℕ → Option ℕ → Type 0
+LawfulSketchNumber n None = Unit {0}
+LawfulSketchNumber n (Some i) = (i < n) × (i < 0xffff)
 
 -- on a sheet of n sketches
 pub record LawfulColumn (n : ℕ) (x : ColumnProfile) : Type 0 where

@@ -1,5 +1,6 @@
 // Tables and keys.
 ghost use Rattle.std.specs.Prelude.{◌≡◌, ◌<◌, ◌^◌};
+ghost use Rattle.rules.specs.Rules.{outcome_number};
 ghost use Rattle.record_rules.specs.Catalog.{row_count_lawful, table_refusal, referenced_refusal, key_refusal};
 
 use crate::fields::{ascending, count_lawful, is_none, whole};
@@ -8,40 +9,49 @@ use layout::{
     TABLE_SIZE,
 };
 use le::reads::{byte_at, u16_at, u64_at};
-use rules::{ask, either, or_else};
+use rules::{Refusal, ask};
+
+// All ones: so many rows as nobody knows.
+const UNKNOWN_ROWS: u64 = u64::MAX;
+
+// What kind a key is.
+const UNIQUE: u8 = 1;
+
+const FOREIGN: u8 = 2;
 
 // A number of rows that is known, or unknown.
 fn row_count_lawful(n: u64) -> bool
     ensures { result ≡ row_count_lawful n }
 {
-    either(count_lawful(n), n == 0xffff_ffff_ffff_ffff)
+    count_lawful(n) || n == UNKNOWN_ROWS
 }
 
-pub fn table_refusal(s: &[u8], i: usize, at: usize) -> u8
+#[tactic(auto, unfolding(crate::specs::Catalog::table_refusal))]
+pub fn table_refusal(s: &[u8], i: usize, at: usize) -> Result<(), Refusal>
     requires { at < 2 ^ 60 }
-    ensures { result ≡ table_refusal s.now i at }
+    ensures { outcome_number result ≡ table_refusal s.now i at }
 {
-    let there = whole(TABLE_SIZE, s, at);
-    let table = ask(ascending(TABLE_SIZE, s, i, at), 7);
-    let rows = ask(row_count_lawful(u64_at(s, at + TABLE_ROWS_OFFSET)), 4);
-    or_else(there, or_else(table, rows))
+    whole(TABLE_SIZE, s, at)?;
+    ask(ascending(TABLE_SIZE, s, i, at), Refusal::Order)?;
+    let rows = u64_at(s, at + TABLE_ROWS_OFFSET);
+    ask(row_count_lawful(rows), Refusal::Figure)
 }
 
 // A unique key references nothing.
-fn referenced_refusal(kind: u8, s: &[u8], at: usize) -> u8
-    ensures { result ≡ referenced_refusal kind s.now at }
+fn referenced_refusal(kind: u8, s: &[u8], at: usize) -> Result<(), Refusal>
+    ensures { outcome_number result ≡ referenced_refusal kind s.now at }
 {
-    ask(either(kind == 2, is_none(u16_at(s, at))), 6)
+    ask(kind == FOREIGN || is_none(u16_at(s, at)), Refusal::Code)
 }
 
-pub fn key_refusal(s: &[u8], at: usize) -> u8
+#[tactic(auto, unfolding(crate::specs::Catalog::key_refusal))]
+pub fn key_refusal(s: &[u8], at: usize) -> Result<(), Refusal>
     requires { at < 2 ^ 60 }
-    ensures { result ≡ key_refusal s.now at }
+    ensures { outcome_number result ≡ key_refusal s.now at }
 {
-    let there = whole(KEY_SIZE, s, at);
+    whole(KEY_SIZE, s, at)?;
     let kind = byte_at(s, at);
-    let known = ask(either(kind == 1, kind == 2), 6);
-    let table = referenced_refusal(kind, s, at + KEY_REFERENCED_TABLE_OFFSET);
-    let column = referenced_refusal(kind, s, at + KEY_REFERENCED_COLUMN_OFFSET);
-    or_else(there, or_else(known, or_else(table, column)))
+    ask(kind == UNIQUE || kind == FOREIGN, Refusal::Code)?;
+    referenced_refusal(kind, s, at + KEY_REFERENCED_TABLE_OFFSET)?;
+    referenced_refusal(kind, s, at + KEY_REFERENCED_COLUMN_OFFSET)
 }

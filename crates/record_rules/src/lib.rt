@@ -1,5 +1,5 @@
 // The rules of rows, settings, tables, keys, columns and classes. A function named for a refusal
-// gives the number of the first rule broken, in the order of the bytes, or 0.
+// gives the first rule broken, in the order of the bytes.
 #![tactic(auto)]
 
 pub mod catalog;

@@ -1,5 +1,6 @@
 // Rows and settings.
 ghost use Rattle.std.specs.Prelude.{◌≡◌, ◌<◌, ◌^◌};
+ghost use Rattle.rules.specs.Rules.{outcome_number};
 ghost use Rattle.record_rules.specs.Rows.{rows_refusal, selectivity_lawful, setting_lawful, setting_refusal};
 
 use crate::fields::whole;
@@ -7,13 +8,15 @@ use estimate::bytes::{estimate_refusal, figure_lawful};
 use float::ranges::zero_or_between;
 use layout::{ESTIMATE_SIZE, FLOAT_SIZE};
 use le::floats::f64_at;
-use rules::{ask, or_else};
+use rules::{Refusal, ask};
 
-pub fn rows_refusal(s: &[u8], at: usize) -> u8
+#[tactic(auto, unfolding(crate::specs::Rows::rows_refusal))]
+pub fn rows_refusal(s: &[u8], at: usize) -> Result<(), Refusal>
     requires { at < 2 ^ 60 }
-    ensures { result ≡ rows_refusal s.now at }
+    ensures { outcome_number result ≡ rows_refusal s.now at }
 {
-    or_else(whole(ESTIMATE_SIZE, s, at), estimate_refusal(s, at))
+    whole(ESTIMATE_SIZE, s, at)?;
+    estimate_refusal(s, at)
 }
 
 fn selectivity_lawful(x: f64) -> bool
@@ -33,11 +36,10 @@ fn setting_lawful(i: usize, x: f64) -> bool
     }
 }
 
-pub fn setting_refusal(s: &[u8], i: usize, at: usize) -> u8
-    ensures { result ≡ setting_refusal s.now i at }
+#[tactic(auto, unfolding(crate::specs::Rows::setting_refusal))]
+pub fn setting_refusal(s: &[u8], i: usize, at: usize) -> Result<(), Refusal>
+    ensures { outcome_number result ≡ setting_refusal s.now i at }
 {
-    or_else(
-        whole(FLOAT_SIZE, s, at),
-        ask(setting_lawful(i, f64_at(s, at)), 4),
-    )
+    whole(FLOAT_SIZE, s, at)?;
+    ask(setting_lawful(i, f64_at(s, at)), Refusal::Figure)
 }

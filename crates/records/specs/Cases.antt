@@ -1,13 +1,11 @@
 -- Worked records, their bytes laid out by document 01 ("The join sheet"). Assumes nothing.
-use Rattle.std.specs.Prelude.{◌≡◌, refl, ℕ, true, false, List, [], ◌∷◌, ◌++◌, pos, negsuc, replicate}
+use Rattle.std.specs.Prelude.{◌≡◌, refl, ℕ, true, false, List, [], ◌∷◌, ◌++◌, pos, negsuc, replicate, Some, None}
 use Rattle.std.specs.Float.{binary64, fin}
 use Rattle.std.specs.Float.Ieee.{of_bits, round}
 use Rattle.float.specs.Order.{f64_zero, f64_one}
-use Rattle.float.specs.Option.{some, none}
 use Rattle.signed.specs.Signed.{signed}
 use Rattle.le.specs.Fields.{field_at}
 use Rattle.scalar.specs.declared.Scalar.TheVariants.{Null, Int32, Int64, Float64, Date32}
-use Rattle.scalar.specs.declared.Bound.TheVariants.{Absent, Present}
 use Rattle.scalar_bytes.specs.Reading.{scalar_at}
 use Rattle.estimate.specs.Estimates.{estimate_of}
 use Rattle.estimate.specs.declared.EstimateSource.TheVariants.{Catalog, Sketch, Derived}
@@ -15,13 +13,10 @@ use Rattle.records.specs.Lists.{tabulate_from, tabulate}
 use Rattle.records.specs.Settings.{settings_at}
 use Rattle.records.specs.Sketches.{sketch_item_at, sketch_at}
 use Rattle.records.specs.Catalog.{table_at, key_at}
-use Rattle.records.specs.Columns.{column_profile_at}
+use Rattle.records.specs.Columns.{column_of, column_profile_at}
 use Rattle.records.specs.Classes.{class_at}
 use Rattle.records.specs.Expressions.{unary_op, binary_op, nary_op, expression_at}
-use Rattle.records.specs.declared.catalog.RowCount.TheVariants.{Unknown, Known}
 use Rattle.records.specs.declared.catalog.Key.TheVariants.{Unique, Foreign}
-use Rattle.records.specs.declared.columns.BaseColumn.TheVariants.{Absent as NoBase, Present as Base}
-use Rattle.records.specs.declared.columns.SketchNumber.TheVariants.{Absent as NoSketch, Present as SketchNo}
 use Rattle.records.specs.declared.expressions.UnaryOp.TheVariants.{Not, IsNull, IsNotNull, Negate}
 use Rattle.records.specs.declared.expressions.BinaryOp.TheVariants.{Eq, IsNotDistinctFrom, NotEq, Lt, LtEq, Gt, GtEq, Add, Subtract, Multiply, Divide}
 use Rattle.records.specs.declared.expressions.NaryOp.TheVariants.{And, Or}
@@ -75,24 +70,24 @@ sketch_read = refl
 
 -- ---- tables and keys
 
-table_read : table_at (5 ∷ 0 ∷ 0xe8 ∷ 3 ∷ 0 ∷ 0 ∷ 0 ∷ 0 ∷ 0 ∷ 0 ∷ []) 0 ≡ record { table = 5; rows = Known 1000 }
+table_read : table_at (5 ∷ 0 ∷ 0xe8 ∷ 3 ∷ 0 ∷ 0 ∷ 0 ∷ 0 ∷ 0 ∷ 0 ∷ []) 0 ≡ record { table = 5; rows = Some 1000 }
 unfolding table_at field_at
 table_read = refl
 
-table_unknown : table_at (behind (0 ∷ 1 ∷ 0xff ∷ 0xff ∷ 0xff ∷ 0xff ∷ 0xff ∷ 0xff ∷ 0xff ∷ 0xff ∷ [])) 3 ≡ record { table = 256; rows = Unknown }
+table_unknown : table_at (behind (0 ∷ 1 ∷ 0xff ∷ 0xff ∷ 0xff ∷ 0xff ∷ 0xff ∷ 0xff ∷ 0xff ∷ 0xff ∷ [])) 3 ≡ record { table = 256; rows = None }
 unfolding table_at field_at
 table_unknown = refl
 
-key_unique : key_at (1 ∷ 4 ∷ 0 ∷ 2 ∷ 0 ∷ 0xff ∷ 0xff ∷ 0xff ∷ 0xff ∷ []) 0 ≡ Unique 4 2
+key_unique : key_at (1 ∷ 4 ∷ 0 ∷ 2 ∷ 0 ∷ 0xff ∷ 0xff ∷ 0xff ∷ 0xff ∷ []) 0 ≡ Unique (column_of 4 2)
 unfolding key_at field_at
 key_unique = refl
 
-key_foreign : key_at (behind (2 ∷ 4 ∷ 0 ∷ 3 ∷ 1 ∷ 5 ∷ 0 ∷ 7 ∷ 0 ∷ [])) 3 ≡ Foreign 4 259 5 7
+key_foreign : key_at (behind (2 ∷ 4 ∷ 0 ∷ 3 ∷ 1 ∷ 5 ∷ 0 ∷ 7 ∷ 0 ∷ [])) 3 ≡ Foreign (column_of 4 259) (column_of 5 7)
 unfolding key_at field_at
 key_foreign = refl
 
 -- of a foreign key FFFF is a number like any other
-key_all_ones : key_at (2 ∷ 0xff ∷ 0xff ∷ 0xff ∷ 0xff ∷ 0xff ∷ 0xff ∷ 0xff ∷ 0xff ∷ []) 0 ≡ Foreign 65535 65535 65535 65535
+key_all_ones : key_at (2 ∷ 0xff ∷ 0xff ∷ 0xff ∷ 0xff ∷ 0xff ∷ 0xff ∷ 0xff ∷ 0xff ∷ []) 0 ≡ Foreign (column_of 65535 65535) (column_of 65535 65535)
 unfolding key_at field_at
 key_all_ones = refl
 
@@ -117,12 +112,12 @@ unsketched =
 
 unsketched_read : column_profile_at unsketched 0 ≡ record {
   column = 7;
-  base = NoBase;
-  lower = Absent;
-  upper = Present (Int32 (negsuc 1));
-  frequency = estimate_of (fin false 25 (pos 2)) none none Catalog;
-  distinct = estimate_of (fin false 5 (pos 1)) none (some (fin false 1 (pos 4))) Sketch;
-  sketch = NoSketch;
+  base = None;
+  lower = None;
+  upper = Some (Int32 (negsuc 1));
+  frequency = estimate_of (fin false 25 (pos 2)) None None Catalog;
+  distinct = estimate_of (fin false 5 (pos 1)) None (Some (fin false 1 (pos 4))) Sketch;
+  sketch = None;
 }
 unfolding column_profile_at signed field_at of_bits
 unsketched_read = refl
@@ -138,12 +133,12 @@ sketched =
 
 sketched_read : column_profile_at (behind sketched) 3 ≡ record {
   column = 127;
-  base = Base 3 9;
-  lower = Present (Float64 (fin true 3 (negsuc 0)));
-  upper = Present Null;
-  frequency = estimate_of (fin false 5 (pos 1)) none (some (fin false 1 (pos 4))) Sketch;
-  distinct = estimate_of (fin false 25 (pos 2)) none none Catalog;
-  sketch = SketchNo 15;
+  base = Some (column_of 3 9);
+  lower = Some (Float64 (fin true 3 (negsuc 0)));
+  upper = Some Null;
+  frequency = estimate_of (fin false 5 (pos 1)) None (Some (fin false 1 (pos 4))) Sketch;
+  distinct = estimate_of (fin false 25 (pos 2)) None None Catalog;
+  sketch = Some 15;
 }
 unfolding column_profile_at signed field_at of_bits
 sketched_read = refl
@@ -159,7 +154,7 @@ three_columns =
 
 class_read : class_at (behind three_columns) 3 ≡ record {
   columns = 1 ∷ 5 ∷ 127 ∷ [];
-  distinct = estimate_of f64_one (some f64_zero) (some f64_one) Derived;
+  distinct = estimate_of f64_one (Some f64_zero) (Some f64_one) Derived;
 }
 unfolding class_at tabulate_from field_at of_bits
 class_read = refl

@@ -14,6 +14,7 @@ pub struct ClassHead {
     pub distinct: Estimate,
 }
 
+#[tactic(auto, unfolding(crate::specs::Classes::class_head_at))]
 pub fn class_head_at(s: &[u8], at: usize) -> ClassHead
     requires { at < 2 ^ 60 }
     ensures { result ≡ class_head_at s.now at }

@@ -9,58 +9,53 @@ use layout::{
     COLUMN_LOWER_OFFSET, COLUMN_SKETCH_OFFSET, COLUMN_UPPER_OFFSET,
 };
 use le::reads::u16_at;
-use scalar::Bound;
+use scalar::Scalar;
 use scalar_bytes::reads::bound_at;
 
-// The column of a table that a column's values come from.
-#[derive(Clone, Copy)]
-pub enum BaseColumn {
-    Absent,
-    Present { table: u16, column: u16 },
+// A column of a table.
+#[derive(Clone, Copy, Debug, PartialEq, Eq)]
+pub struct BaseColumn {
+    pub table: u16,
+    pub column: u16,
 }
 
-// A sketch, by its place in the section.
-#[derive(Clone, Copy)]
-pub enum SketchNumber {
-    Absent,
-    Present(u16),
-}
-
+// `base` is the column that its values come from, and `sketch` the place of its sketch among the
+// sheet's.
 #[derive(Clone, Copy)]
 pub struct ColumnProfile {
     pub column: u16,
-    pub base: BaseColumn,
-    pub lower: Bound,
-    pub upper: Bound,
+    pub base: Option<BaseColumn>,
+    pub lower: Option<Scalar>,
+    pub upper: Option<Scalar>,
     pub frequency: Estimate,
     pub distinct: Estimate,
-    pub sketch: SketchNumber,
+    pub sketch: Option<u16>,
 }
 
-fn base_column_at(s: &[u8], at: usize) -> BaseColumn
+#[tactic(auto, unfolding(crate::specs::Columns::base_column_at))]
+fn base_column_at(s: &[u8], at: usize) -> Option<BaseColumn>
     requires { at < 2 ^ 61 }
     ensures { result ≡ base_column_at s.now at }
 {
     let table = u16_at(s, at);
-    if table == 0xffff {
-        return BaseColumn::Absent;
+    if table == u16::MAX {
+        return None;
     }
-    BaseColumn::Present {
+    Some(BaseColumn {
         table,
         column: u16_at(s, at + BASE_COLUMN_OFFSET),
-    }
+    })
 }
 
-fn sketch_number_at(s: &[u8], at: usize) -> SketchNumber
+#[tactic(auto, unfolding(crate::specs::Columns::sketch_number_at))]
+pub fn sketch_number_at(s: &[u8], at: usize) -> Option<u16>
     ensures { result ≡ sketch_number_at s.now at }
 {
     let n = u16_at(s, at);
-    if n == 0xffff {
-        return SketchNumber::Absent;
-    }
-    SketchNumber::Present(n)
+    (n != u16::MAX).then_some(n)
 }
 
+#[tactic(auto, unfolding(crate::specs::Columns::column_profile_at))]
 pub fn column_profile_at(s: &[u8], at: usize) -> ColumnProfile
     requires { at < 2 ^ 60 }
     ensures { result ≡ column_profile_at s.now at }

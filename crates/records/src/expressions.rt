@@ -11,7 +11,7 @@ use le::reads::{byte_at, u16_at};
 use scalar::Scalar;
 use scalar_bytes::reads::scalar_at;
 
-#[derive(Clone, Copy)]
+#[derive(Clone, Copy, Debug, PartialEq, Eq)]
 pub enum UnaryOp {
     Not,
     IsNull,
@@ -19,7 +19,7 @@ pub enum UnaryOp {
     Negate,
 }
 
-#[derive(Clone, Copy)]
+#[derive(Clone, Copy, Debug, PartialEq, Eq)]
 pub enum BinaryOp {
     Eq,
     IsNotDistinctFrom,
@@ -34,7 +34,7 @@ pub enum BinaryOp {
     Divide,
 }
 
-#[derive(Clone, Copy)]
+#[derive(Clone, Copy, Debug, PartialEq, Eq)]
 pub enum NaryOp {
     And,
     Or,
@@ -51,45 +51,53 @@ pub enum Expression {
     Other,
 }
 
-// The operator with the number n; where n is past the last, the last.
-pub fn unary_op(n: u8) -> UnaryOp
-    ensures { result ≡ unary_op n }
-{
-    match n {
-        0 => UnaryOp::Not,
-        1 => UnaryOp::IsNull,
-        2 => UnaryOp::IsNotNull,
-        _ => UnaryOp::Negate,
+// Operators by their numbers. A number past the last gives the last.
+
+impl From<u8> for UnaryOp {
+    ghost from_gives = { λ n op. op ≡ unary_op n };
+
+    fn from(n: u8) -> UnaryOp {
+        match n {
+            0 => UnaryOp::Not,
+            1 => UnaryOp::IsNull,
+            2 => UnaryOp::IsNotNull,
+            _ => UnaryOp::Negate,
+        }
     }
 }
 
-pub fn binary_op(n: u8) -> BinaryOp
-    ensures { result ≡ binary_op n }
-{
-    match n {
-        0 => BinaryOp::Eq,
-        1 => BinaryOp::IsNotDistinctFrom,
-        2 => BinaryOp::NotEq,
-        3 => BinaryOp::Lt,
-        4 => BinaryOp::LtEq,
-        5 => BinaryOp::Gt,
-        6 => BinaryOp::GtEq,
-        7 => BinaryOp::Add,
-        8 => BinaryOp::Subtract,
-        9 => BinaryOp::Multiply,
-        _ => BinaryOp::Divide,
+impl From<u8> for BinaryOp {
+    ghost from_gives = { λ n op. op ≡ binary_op n };
+
+    fn from(n: u8) -> BinaryOp {
+        match n {
+            0 => BinaryOp::Eq,
+            1 => BinaryOp::IsNotDistinctFrom,
+            2 => BinaryOp::NotEq,
+            3 => BinaryOp::Lt,
+            4 => BinaryOp::LtEq,
+            5 => BinaryOp::Gt,
+            6 => BinaryOp::GtEq,
+            7 => BinaryOp::Add,
+            8 => BinaryOp::Subtract,
+            9 => BinaryOp::Multiply,
+            _ => BinaryOp::Divide,
+        }
     }
 }
 
-pub fn nary_op(n: u8) -> NaryOp
-    ensures { result ≡ nary_op n }
-{
-    match n {
-        0 => NaryOp::And,
-        _ => NaryOp::Or,
+impl From<u8> for NaryOp {
+    ghost from_gives = { λ n op. op ≡ nary_op n };
+
+    fn from(n: u8) -> NaryOp {
+        match n {
+            0 => NaryOp::And,
+            _ => NaryOp::Or,
+        }
     }
 }
 
+#[tactic(auto, unfolding(crate::specs::Expressions::expression_at))]
 pub fn expression_at(s: &[u8], at: usize) -> Expression
     requires { at < 2 ^ 60 }
     ensures { result ≡ expression_at s.now at }
@@ -99,16 +107,16 @@ pub fn expression_at(s: &[u8], at: usize) -> Expression
         0 => Expression::Literal(scalar_at(s, at + EXPRESSION_SCALAR_OFFSET)),
         1 => Expression::ColumnRef(u16_at(s, at + EXPRESSION_FIRST_OFFSET)),
         2 => Expression::Unary {
-            op: unary_op(byte_at(s, at + EXPRESSION_OP_OFFSET)),
+            op: UnaryOp::from(byte_at(s, at + EXPRESSION_OP_OFFSET)),
             expr: u16_at(s, at + EXPRESSION_FIRST_OFFSET),
         },
         3 => Expression::Binary {
-            op: binary_op(byte_at(s, at + EXPRESSION_OP_OFFSET)),
+            op: BinaryOp::from(byte_at(s, at + EXPRESSION_OP_OFFSET)),
             left: u16_at(s, at + EXPRESSION_FIRST_OFFSET),
             right: u16_at(s, at + EXPRESSION_SECOND_OFFSET),
         },
         4 => Expression::Nary {
-            op: nary_op(byte_at(s, at + EXPRESSION_OP_OFFSET)),
+            op: NaryOp::from(byte_at(s, at + EXPRESSION_OP_OFFSET)),
             first: u16_at(s, at + EXPRESSION_FIRST_OFFSET),
             count: u16_at(s, at + EXPRESSION_SECOND_OFFSET),
         },

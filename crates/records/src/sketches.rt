@@ -8,7 +8,7 @@ use scalar::Scalar;
 use scalar_bytes::reads::scalar_at;
 
 // What stands before the items. `count` is their number.
-#[derive(Clone, Copy)]
+#[derive(Clone, Copy, Debug, PartialEq, Eq)]
 pub struct SketchHead {
     pub population: u64,
     pub count: u16,
@@ -22,6 +22,7 @@ pub struct SketchItem {
     pub error: u64,
 }
 
+#[tactic(auto, unfolding(crate::specs::Sketches::sketch_head_at))]
 pub fn sketch_head_at(s: &[u8], at: usize) -> SketchHead
     requires { at < 2 ^ 60 }
     ensures { result ≡ sketch_head_at s.now at }
@@ -32,6 +33,7 @@ pub fn sketch_head_at(s: &[u8], at: usize) -> SketchHead
     }
 }
 
+#[tactic(auto, unfolding(crate::specs::Sketches::sketch_item_at))]
 pub fn sketch_item_at(s: &[u8], at: usize) -> SketchItem
     requires { at < 2 ^ 60 }
     ensures { result ≡ sketch_item_at s.now at }

@@ -1,14 +1,16 @@
 -- What the square of a number leaves of w * 4 ^ 27, worked out in parts of 27 digits, and what that of a number a little larger leaves: what the tests of a guess show. Assumes nothing.
-use Rattle.std.proofs.Common.{◌≡◌, ℕ, zero, suc, ◌+◌, ◌-◌, ◌*◌, ◌/◌, ◌%◌, ◌^◌, ◌<◌, ◌≤◌, Bool, true, false, cond, ◌&&◌, ltb, leb, pos, sym, refl, ap, ◌∙◌, subst, le_of_lt, mul_assoc, mul_comm, mul-le-mul, mul-add, arith, ltb-true, le-ltb, lt-ltb, le-leb, leb-true}
+use Rattle.std.proofs.Common.{Option, Some, None, ◌≡◌, ℕ, zero, suc, ◌+◌, ◌-◌, ◌*◌, ◌/◌, ◌%◌, ◌^◌, ◌<◌, ◌≤◌, Bool, true, false, cond, ◌&&◌, pos, sym, refl, ap, ◌∙◌, subst, le_of_lt, mul_assoc, mul_comm, mul-le-mul, mul-add, arith, ltb-true, le-ltb, lt-ltb, le-leb, leb-true}
 use native.Mathlib.Nat.{mul-mul-mul_comm}
-use mathlib.Core.Bool.{false≢true}
 use borrow.Author.Tests.{lt-leb}
+use Rattle.std.specs.Prelude.{SomeIff, option_and_then, nat_le, nat_lt}
+use Rattle.std.specs.Bool.{then_some}
+use Rattle.std.proofs.lemmas.Bool.{and_parts}
+use Rattle.std.proofs.lemmas.Option.{cond_some, none-some, option_and_then_some}
 use lib.Ieee.{Float, fin, binary64, of_int, to_unsigned, neg, lt}
 use Rattle.float.specs.Order.{f64_one}
 use Rattle.root.specs.Digits.{RootDigits, rounded_by, rounded_half}
 use Rattle.root.specs.Guess.{guessed, whole_of, guess, leaves_little, remainder_of, moved_up, corrected}
-use Rattle.root.specs.declared.digits.Remainder.{Remainder}
-use Rattle.root.specs.declared.digits.Attempt.{Attempt}
+use Rattle.root.specs.declared.digits.Digits.{Digits}
 use Rattle.root.proofs.Squares.{sq_sum}
 
 -- the square of a * 2 ^ 27 + b
@@ -51,37 +53,50 @@ high g = g / 0x800_0000
 abbrev low : ℕ → ℕ
 low g = g % 0x800_0000
 
--- the tests say that the square is no larger
-little_below : (w g : ℕ) → leaves_little w (high g) (low g) ≡ true → g * g ≤ w * 4 ^ 27
-little_below w g = go (leb (high g * high g) w) (ltb (w - high g * high g) 0x2000_0000) (leb (2 * (high g * low g)) ((w - high g * high g) * 0x800_0000)) (ltb ((w - high g * high g) * 0x800_0000 - 2 * (high g * low g)) 0x10_0000_0000) (leb (low g * low g) (((w - high g * high g) * 0x800_0000 - 2 * (high g * low g)) * 0x800_0000)) (leb-true _ _) (leb-true _ _) (leb-true _ _)
-  where
-    go : (a b c d e : Bool) → (a ≡ true → high g * high g ≤ w) → (c ≡ true → 2 * (high g * low g) ≤ (w - high g * high g) * 0x800_0000) → (e ≡ true → low g * low g ≤ ((w - high g * high g) * 0x800_0000 - 2 * (high g * low g)) * 0x800_0000)
-        → (a && (b && (c && (d && e)))) ≡ true → g * g ≤ w * 4 ^ 27
-    go true true true true true h k l t = let is = left_is w g (h refl) (k refl) (l refl) in omega arith
-    go true true true true false h k l t = absurd (false≢true t)
-    go true true true false e h k l t = absurd (false≢true t)
-    go true true false d e h k l t = absurd (false≢true t)
-    go true false c d e h k l t = absurd (false≢true t)
-    go false b c d e h k l t = absurd (false≢true t)
+-- what the tests say
+abbrev pub Little : ℕ → ℕ → ℕ → Type 0
+Little w a b =
+    (a * a ≤ w)
+    × (w - a * a < 0x2000_0000)
+    × (2 * (a * b) ≤ (w - a * a) * 0x800_0000)
+    × ((w - a * a) * 0x800_0000 - 2 * (a * b) < 0x10_0000_0000)
+    × (b * b ≤ ((w - a * a) * 0x800_0000 - 2 * (a * b)) * 0x800_0000)
+
+little_parts : (w a b : ℕ) → leaves_little w a b ≡ true → Little w a b
+little_parts w a b t =
+    let p = and_parts _ _ t in
+    let q = and_parts _ _ p.1 in
+    let r = and_parts _ _ q.1 in
+    let s = and_parts _ _ r.1 in
+    (leb-true _ _ p.0, ltb-true _ _ q.0, leb-true _ _ r.0, ltb-true _ _ s.0, leb-true _ _ s.1)
 
 module _ (w g : ℕ) where
-  -- all of them pass
-  pub remainder_fits : high g * high g ≤ w → w - high g * high g < 0x2000_0000 → 2 * (high g * low g) ≤ (w - high g * high g) * 0x800_0000 → (w - high g * high g) * 0x800_0000 - 2 * (high g * low g) < 0x10_0000_0000
-      → low g * low g ≤ ((w - high g * high g) * 0x800_0000 - 2 * (high g * low g)) * 0x800_0000
-      → record { fits = true; rest = ((w - high g * high g) * 0x800_0000 - 2 * (high g * low g)) * 0x800_0000 - low g * low g } ≡ remainder_of w g
+  remainder_some : (left : ℕ) → Little w (high g) (low g) → left ≡ ((w - high g * high g) * 0x800_0000 - 2 * (high g * low g)) * 0x800_0000 - low g * low g → Some left ≡ remainder_of w g
   unfolding remainder_of
-  remainder_fits h i j k l = rw (le-leb _ _ h, lt-ltb _ _ i, le-leb _ _ j, lt-ltb _ _ k, le-leb _ _ l) (ap (λ (n : ℕ). record { fits = true; rest = n }) (let is = left_is w g h j l in omega arith))
+  remainder_some left (h, i, j, k, l) e = rw (le-leb _ _ h, lt-ltb _ _ i, le-leb _ _ j, lt-ltb _ _ k, le-leb _ _ l) (ap Some (let is = left_is w g h j l in omega arith))
 
-  remainder_left : (remainder_of w g).fits ≡ true → g * g + (remainder_of w g).rest ≡ w * 4 ^ 27
+  pub remainder_none : (Little w (high g) (low g) → ⊥) → None ≡ remainder_of w g
   unfolding remainder_of
-  remainder_left e = go (leaves_little w (high g) (low g)) (little_below w g) e
+  remainder_none n = go (leaves_little w (high g) (low g)) (λ t. n (little_parts w (high g) (low g) t))
     where
-      tested : Bool → Remainder
-      tested b = cond b (record { fits = true; rest = w * 4 ^ 27 - g * g }) (record { fits = false; rest = 0 })
+      go : (b : Bool) → (b ≡ true → ⊥) → None ≡ cond b (Some (w * 4 ^ 27 - g * g)) None
+      go true n = absurd (n refl)
+      go false n = refl
 
-      go : (b : Bool) → (b ≡ true → g * g ≤ w * 4 ^ 27) → (tested b).fits ≡ true → g * g + (tested b).rest ≡ w * 4 ^ 27
-      go true h e = let l = h refl in omega arith
-      go false h e = absurd (false≢true e)
+  -- all but the last pass
+  pub remainder_end : (f : ℕ) (r : Option ℕ) → high g * high g ≤ w → w - high g * high g < 0x2000_0000 → 2 * (high g * low g) ≤ (w - high g * high g) * 0x800_0000 → f < 0x10_0000_0000
+      → f ≡ (w - high g * high g) * 0x800_0000 - 2 * (high g * low g) → SomeIff r (low g * low g ≤ f * 0x800_0000) (f * 0x800_0000 - low g * low g) → r ≡ remainder_of w g
+  remainder_end f None h i j k e s = remainder_none (λ l. s (let m = l.4 in omega arith))
+  remainder_end f (Some left) h i j k e s = let m = s.0 in let is = s.1 in remainder_some left (h, i, j, omega arith, omega arith) (omega arith)
+
+  remainder_left : (left : ℕ) → remainder_of w g ≡ Some left → g * g + left ≡ w * 4 ^ 27
+  unfolding remainder_of
+  remainder_left left e =
+      let p = cond_some (leaves_little w (high g) (low g)) (w * 4 ^ 27 - g * g) left e in
+      let l = little_parts w (high g) (low g) p.0 in
+      let is = left_is w g l.0 l.2 l.4 in
+      let i = p.1 in
+      omega arith
 
 -- q more than g
 more_is : (g q rest n : ℕ) → g * g + rest ≡ n → q * (2 * g + q) ≤ rest → (g + q) * (g + q) + (rest - q * (2 * g + q)) ≡ n
@@ -90,64 +105,56 @@ more_is g q rest n e h =
     let m : q * (2 * g + q) ≡ 2 * (g * q) + q * q = mul-add q (2 * g) q ∙ ap (λ (x : ℕ). x + q * q) (mul_comm q (2 * g) ∙ mul_assoc 2 g q) in
     omega arith
 
--- the tests of an attempt, where `left` is what g leaves and q the whole part of that through 2 * g + 1
-module _ (w g : ℕ) (left : Remainder) (is : left ≡ remainder_of w g) where
-  abbrev step : ℕ
-  step = left.rest / (2 * g + 1)
+-- ---- the tests of an attempt, where g leaves `left`
+abbrev step : ℕ → ℕ → ℕ
+step g left = left / (2 * g + 1)
 
-  abbrev failed : Attempt
-  failed = record { good = false; digits = 0; rest = 0 }
-
-  attempt_of : moved_up g left step ≡ corrected w g
+module _ (w g : ℕ) where
+  pub attempt_nowhere : g < 0x3f_ffff_ffff_ff00 → None ≡ remainder_of w g → None ≡ corrected w g
   unfolding corrected
-  attempt_of = ap (λ (r : Remainder). moved_up g r (r.rest / (2 * g + 1))) is
+  attempt_nowhere h is = rw (lt-ltb _ _ h, sym is) refl
 
-  module _ (h : g < 0x3f_ffff_ffff_ff00) where
-    pub attempt_far : 64 ≤ step → failed ≡ corrected w g
-    attempt_far i = far ∙ attempt_of
+  module _ (left : ℕ) (h : g < 0x3f_ffff_ffff_ff00) (is : Some left ≡ remainder_of w g) where
+    attempt_of : moved_up g left (step g left) ≡ corrected w g
+    unfolding corrected
+    attempt_of = rw (lt-ltb _ _ h, sym is) refl
+
+    pub attempt_far : 64 ≤ step g left → None ≡ corrected w g
+    attempt_far i = rw (le-ltb _ _ i) refl ∙ attempt_of
+
+    pub attempt_short : step g left < 64 → left < step g left * (2 * g + step g left) → None ≡ corrected w g
+    attempt_short i j = rw (lt-ltb _ _ i, lt-leb _ _ j) refl ∙ attempt_of
+
+    pub attempt_made : (rest : ℕ) → step g left < 64 → step g left * (2 * g + step g left) ≤ left → rest ≡ left - step g left * (2 * g + step g left)
+        → then_some (nat_le rest (2 * (g + step g left))) (record { digits = g + step g left; rest = rest }) ≡ corrected w g
+    attempt_made rest i j e = rw e (go (nat_le (left - step g left * (2 * g + step g left)) (2 * (g + step g left)))) ∙ made ∙ attempt_of
       where
-        far : failed ≡ moved_up g left step
-        far = rw (lt-ltb _ _ h, le-ltb _ _ i) refl
+        found : Digits
+        found = record { digits = g + step g left; rest = left - step g left * (2 * g + step g left) }
 
-    pub attempt_short : step < 64 → left.rest < step * (2 * g + step) → failed ≡ corrected w g
-    attempt_short i j = short ∙ attempt_of
-      where
-        short : failed ≡ moved_up g left step
-        short = rw (lt-ltb _ _ h, lt-ltb _ _ i, lt-leb _ _ j) refl
+        go : (b : Bool) → then_some b found ≡ cond b (Some found) None
+        go true = refl
+        go false = refl
 
-    pub attempt_long : step < 64 → step * (2 * g + step) ≤ left.rest → 2 * (g + step) < left.rest - step * (2 * g + step) → failed ≡ corrected w g
-    attempt_long i j k = long ∙ attempt_of
-      where
-        long : failed ≡ moved_up g left step
-        long = rw (lt-ltb _ _ h, lt-ltb _ _ i, le-leb _ _ j, lt-leb _ _ k) refl
+        made : cond (nat_le (left - step g left * (2 * g + step g left)) (2 * (g + step g left))) (Some found) None ≡ moved_up g left (step g left)
+        made = rw (lt-ltb _ _ i, le-leb _ _ j) refl
 
-    pub attempt_made : step < 64 → step * (2 * g + step) ≤ left.rest → left.rest - step * (2 * g + step) ≤ 2 * (g + step) → record { good = left.fits; digits = g + step; rest = left.rest - step * (2 * g + step) } ≡ corrected w g
-    attempt_made i j k = made ∙ attempt_of
-      where
-        made : record { good = left.fits; digits = g + step; rest = left.rest - step * (2 * g + step) } ≡ moved_up g left step
-        made = rw (lt-ltb _ _ h, lt-ltb _ _ i, le-leb _ _ j, le-leb _ _ k) refl
-
--- an attempt that is good has all digits
-pub attempt_digits : (w g : ℕ) (t : Attempt) → t ≡ corrected w g → t.good ≡ true → RootDigits w t.digits t.rest
+-- an attempt that passes has all digits
+pub attempt_digits : (w g : ℕ) (t : Digits) → Some t ≡ corrected w g → RootDigits w t.digits t.rest
 unfolding corrected
-attempt_digits w g t is e = rw is (go (ltb g 0x3f_ffff_ffff_ff00) (ltb q 64) (leb (q * (2 * g + q)) left.rest) (leb (left.rest - q * (2 * g + q)) (2 * (g + q))) (ltb-true _ _) (ltb-true _ _) (leb-true _ _) (leb-true _ _) (rw is at e))
+attempt_digits w g t e = go (nat_lt g 0x3f_ffff_ffff_ff00) (ltb-true _ _) (sym e)
   where
-    left : Remainder
-    left = remainder_of w g
+    digits_of : (left : ℕ) → g < 0x3f_ffff_ffff_ff00 → remainder_of w g ≡ Some left → moved_up g left (step g left) ≡ Some t → RootDigits w t.digits t.rest
+    digits_of left h is found =
+        let p = cond_some _ _ t found in
+        let q = and_parts _ _ p.0 in
+        let r = and_parts _ _ q.1 in
+        let i : step g left < 64 = ltb-true _ _ q.0 in
+        subst (λ (t : Digits). RootDigits w t.digits t.rest) p.1 (record { whole = more_is g (step g left) left _ (remainder_left w g left is) (leb-true _ _ r.0); small = leb-true _ _ r.1; bound = omega arith })
 
-    q : ℕ
-    q = left.rest / (2 * g + 1)
-
-    tested : Bool → Attempt
-    tested b = cond b (record { good = left.fits; digits = g + q; rest = left.rest - q * (2 * g + q) }) (record { good = false; digits = 0; rest = 0 })
-
-    go : (a b c d : Bool) → (a ≡ true → g < 0x3f_ffff_ffff_ff00) → (b ≡ true → q < 64) → (c ≡ true → q * (2 * g + q) ≤ left.rest) → (d ≡ true → left.rest - q * (2 * g + q) ≤ 2 * (g + q))
-        → (tested (a && (b && (c && d)))).good ≡ true → RootDigits w (tested (a && (b && (c && d)))).digits (tested (a && (b && (c && d)))).rest
-    go true true true true h i j k e = let l = h refl in let m = i refl in record { whole = more_is g q left.rest _ (remainder_left w g e) (j refl); small = k refl; bound = omega arith }
-    go true true true false h i j k e = absurd (false≢true e)
-    go true true false d h i j k e = absurd (false≢true e)
-    go true false c d h i j k e = absurd (false≢true e)
-    go false b c d h i j k e = absurd (false≢true e)
+    go : (b : Bool) → (b ≡ true → g < 0x3f_ffff_ffff_ff00) → cond b (option_and_then (λ left. moved_up g left (step g left)) (remainder_of w g)) None ≡ Some t → RootDigits w t.digits t.rest
+    go true h e = option_and_then_some (λ left. moved_up g left (step g left)) (remainder_of w g) t e (λ left is found. digits_of left (h refl) is found)
+    go false h e = absurd (none-some t e)
 
 pub small : (x y : ℕ) → x < 0x800_0000 → y < 0x800_0000 → x * y ≤ 18014398509481984
 small x y h k = mul-le-mul {n₂ = 0x800_0000} (le_of_lt h) (le_of_lt k)

@@ -199,14 +199,14 @@ module _ (digits rest z n : ℕ) (small : rest ≤ 2 * digits) (lo : 2 ^ 53 ≤ 
 abbrev digits_of : ℕ → ℕ → Digits
 digits_of d r = record { digits = d; rest = r }
 
-pub digits_fixed : (w d r : ℕ) → RootDigits w d r → digits_of d r ≡ all_digits w
+pub digits_fixed : (w : ℕ) (t : Digits) → RootDigits w t.digits t.rest → t ≡ all_digits w
 unfolding all_digits
-digits_fixed w d r h =
-    let k : d * d + r ≡ w * 4 ^ 27 = h.whole in
-    let m : r ≤ 2 * d = h.small in
-    let s : (d + 1) * (d + 1) ≡ d * d + 2 * d + 1 = sq_suc d in
-    let u : w * 4 ^ 27 < (d + 1) * (d + 1) = omega arith in
-    let v : w * 4 ^ 27 < suc d * suc d = subst (λ (x : ℕ). w * 4 ^ 27 < x * x) (add-one d) u in
-    let e : d ≡ isqrt (w * 4 ^ 27) = whole_unique (w * 4 ^ 27) d (isqrt (w * 4 ^ 27)) (omega arith, v) (isqrt_whole (w * 4 ^ 27)) in
-    let f : r ≡ w * 4 ^ 27 - d * d = omega arith in
-    ap (digits_of d) f ∙ ap (λ (x : ℕ). digits_of x (w * 4 ^ 27 - x * x)) e
+digits_fixed w t h =
+    let k : t.digits * t.digits + t.rest ≡ w * 4 ^ 27 = h.whole in
+    let m : t.rest ≤ 2 * t.digits = h.small in
+    let s : (t.digits + 1) * (t.digits + 1) ≡ t.digits * t.digits + 2 * t.digits + 1 = sq_suc t.digits in
+    let u : w * 4 ^ 27 < (t.digits + 1) * (t.digits + 1) = omega arith in
+    let v : w * 4 ^ 27 < suc t.digits * suc t.digits = subst (λ (x : ℕ). w * 4 ^ 27 < x * x) (add-one t.digits) u in
+    let e : t.digits ≡ isqrt (w * 4 ^ 27) = whole_unique (w * 4 ^ 27) t.digits (isqrt (w * 4 ^ 27)) (omega arith, v) (isqrt_whole (w * 4 ^ 27)) in
+    let f : t.rest ≡ w * 4 ^ 27 - t.digits * t.digits = omega arith in
+    ap (digits_of t.digits) f ∙ ap (λ (x : ℕ). digits_of x (w * 4 ^ 27 - x * x)) e

@@ -1,10 +1,9 @@
 -- The digits of the root of w * 4 ^ 27 from a guess in the processor's arithmetic, and the tests that the guess has to pass. Nothing here says how near the guess is: the tests do. Definitions only.
-use Rattle.std.specs.Prelude.{ℕ, ◌+◌, ◌-◌, ◌*◌, ◌/◌, ◌%◌, ◌^◌, Bool, true, false, cond, ◌&&◌, pos, negsuc, nat_le, nat_lt, Float}
+use Rattle.std.specs.Prelude.{ℕ, ◌+◌, ◌-◌, ◌*◌, ◌/◌, ◌%◌, ◌^◌, Bool, false, cond, ◌&&◌, pos, negsuc, nat_le, nat_lt, Option, Some, None, option_and_then, Float}
 use Rattle.std.specs.Float.{fin, binary64}
 use Rattle.std.specs.Float.Ieee.{round, of_int, to_unsigned, add, sub, mul, neg, lt}
 use Rattle.float.specs.Order.{f64_one}
-use Rattle.root.specs.declared.digits.Remainder.{Remainder}
-use Rattle.root.specs.declared.digits.Attempt.{Attempt}
+use Rattle.root.specs.declared.digits.Digits.{Digits}
 
 -- ---- the guess
 
@@ -52,16 +51,16 @@ leaves_little w a b =
     && (nat_lt ((w - a * a) * 0x800_0000 - 2 * (a * b)) 0x10_0000_0000
     && nat_le (b * b) (((w - a * a) * 0x800_0000 - 2 * (a * b)) * 0x800_0000))))
 
-unfoldable pub remainder_of : ℕ → ℕ → Remainder
-remainder_of w g = cond (leaves_little w (g / 0x800_0000) (g % 0x800_0000)) (record { fits = true; rest = w * 4 ^ 27 - g * g }) (record { fits = false; rest = 0 })
+unfoldable pub remainder_of : ℕ → ℕ → Option ℕ
+remainder_of w g = cond (leaves_little w (g / 0x800_0000) (g % 0x800_0000)) (Some (w * 4 ^ 27 - g * g)) None
 
 -- g moved up by q, the whole part of what is left through 2 * g + 1
-abbrev pub moved_up : ℕ → Remainder → ℕ → Attempt
+abbrev pub moved_up : ℕ → ℕ → ℕ → Option Digits
 moved_up g left q =
-    cond (nat_lt g 0x3f_ffff_ffff_ff00 && (nat_lt q 64 && (nat_le (q * (2 * g + q)) left.rest && nat_le (left.rest - q * (2 * g + q)) (2 * (g + q)))))
-    (record { good = left.fits; digits = g + q; rest = left.rest - q * (2 * g + q) })
-    (record { good = false; digits = 0; rest = 0 })
+    cond (nat_lt q 64 && (nat_le (q * (2 * g + q)) left && nat_le (left - q * (2 * g + q)) (2 * (g + q))))
+    (Some (record { digits = g + q; rest = left - q * (2 * g + q) }))
+    None
 
-unfoldable pub corrected : ℕ → ℕ → Attempt
+unfoldable pub corrected : ℕ → ℕ → Option Digits
 unfolding remainder_of
-corrected w g = moved_up g (remainder_of w g) ((remainder_of w g).rest / (2 * g + 1))
+corrected w g = cond (nat_lt g 0x3f_ffff_ffff_ff00) (option_and_then (λ left. moved_up g left (left / (2 * g + 1))) (remainder_of w g)) None

@@ -1,7 +1,28 @@
 // The binary digits of a square root, and what their square leaves of the number.
-ghost use Rattle.std.specs.Prelude.{◌≡◌, ◌+◌, ◌*◌, ◌^◌, ◌<◌, ◌≤◌};
+ghost use Rattle.std.specs.Prelude.{◌≡◌, ◌+◌, ◌*◌, ◌^◌, ◌<◌, ◌≤◌, IfSome};
 ghost use Rattle.root.specs.Digits.{RootDigits, all_digits};
 ghost use Rattle.root.specs.Guess.{guessed, guess, remainder_of, corrected};
+
+// 2^27: a whole root lies below it, and a guess is split at it.
+const PART: u64 = 0x800_0000;
+
+// So many binary digits more than the whole root are found.
+const MORE_DIGITS: u64 = 27;
+
+// 2^64.
+const GUESS_END: f64 = 18446744073709551616.0;
+
+// A guess that is corrected lies below it, so that the root lies below 2^54.
+const GUESS_LIMIT: u64 = 0x3f_ffff_ffff_ff00;
+
+// 2^29: what the square of a guess's upper part leaves has to lie below it.
+const UPPER_LIMIT: u64 = 0x2000_0000;
+
+// 2^36: so has what twice the product of both parts leaves then.
+const MIDDLE_LIMIT: u64 = 0x10_0000_0000;
+
+// A guess is moved up by less than this.
+const STEP_LIMIT: u64 = 64;
 
 // digits * digits + rest is the number, and rest is at most 2 * digits.
 #[derive(Clone, Copy)]
@@ -16,13 +37,13 @@ fn whole_root(w: u64) -> u64
     ensures { (result * result ≤ w) × (w < (result + 1) * (result + 1)) × (result < 2 ^ 27) }
 {
     let mut r = 0u64;
-    let mut step = 0x800_0000u64;
+    let mut step = PART;
     while step > 1 {
         let half = step / 2;
         let t = r + half;
         if t * t <= w {
             r = t;
-            step = step - half;
+            step -= half;
         } else {
             step = half;
         }
@@ -37,8 +58,7 @@ fn digit_by_digit(w: u64) -> Digits
 {
     let mut r = whole_root(w);
     let mut rest = w - r * r;
-    let mut i = 0u64;
-    while i < 27 {
+    for _ in 0..MORE_DIGITS {
         let t = 4 * r + 1;
         let m = 4 * rest;
         if t <= m {
@@ -48,7 +68,6 @@ fn digit_by_digit(w: u64) -> Digits
             rest = m;
             r = 2 * r;
         }
-        i += 1;
     }
     Digits { digits: r, rest }
 }
@@ -72,120 +91,52 @@ fn guess(w: u64) -> u64
     ensures { result ≡ guess w }
 {
     let g = guessed(std::num::nearest_u64_to_f64(w));
-    if -1.0 < g {
-        if g < 18446744073709551616.0 {
-            return std::num::truncating_f64_to_u64(g);
-        }
+    if -1.0 < g && g < GUESS_END {
+        return std::num::truncating_f64_to_u64(g);
     }
     0
 }
 
 // What g * g leaves of w * 4^27, where it leaves little.
-#[derive(Clone, Copy)]
-struct Remainder {
-    fits: bool,
-    rest: u64,
-}
-
-fn remainder_of(w: u64, g: u64) -> Remainder
+fn remainder_of(w: u64, g: u64) -> Option<u64>
     requires { (w < 2 ^ 54) × (g < 2 ^ 54) }
-    ensures { (result ≡ remainder_of w g) × (result.rest < 2 ^ 63) }
+    ensures value { result ≡ remainder_of w g }
+    ensures small { IfSome result (λ rest. rest < 2 ^ 63) }
 {
-    let a = g / 0x800_0000;
-    let b = g % 0x800_0000;
-    let aa = a * a;
-    if w < aa {
-        return Remainder {
-            fits: false,
-            rest: 0,
-        };
+    let a = g / PART;
+    let b = g % PART;
+    // `?` at these two takes 1 % more instructions for a root.
+    let Some(e) = w.checked_sub(a * a) else {
+        return None;
+    };
+    if e >= UPPER_LIMIT {
+        return None;
     }
-    let e = w - aa;
-    if 0x2000_0000 <= e {
-        return Remainder {
-            fits: false,
-            rest: 0,
-        };
+    let Some(f) = (e * PART).checked_sub(2 * (a * b)) else {
+        return None;
+    };
+    if f >= MIDDLE_LIMIT {
+        return None;
     }
-    let h = e * 0x800_0000;
-    let ab = a * b;
-    if h < 2 * ab {
-        return Remainder {
-            fits: false,
-            rest: 0,
-        };
-    }
-    let f = h - 2 * ab;
-    if 0x10_0000_0000 <= f {
-        return Remainder {
-            fits: false,
-            rest: 0,
-        };
-    }
-    let m = f * 0x800_0000;
-    let bb = b * b;
-    if m < bb {
-        return Remainder {
-            fits: false,
-            rest: 0,
-        };
-    }
-    Remainder {
-        fits: true,
-        rest: m - bb,
-    }
+    (f * PART).checked_sub(b * b)
 }
 
-// The root of w * 4^27 from a number a little below it. `good` says that the test passed.
-#[derive(Clone, Copy)]
-struct Attempt {
-    good: bool,
-    digits: u64,
-    rest: u64,
-}
-
-fn corrected(w: u64, g: u64) -> Attempt
+// The root of w * 4^27 from a number a little below it, where that passes the tests.
+fn corrected(w: u64, g: u64) -> Option<Digits>
     requires { w < 2 ^ 54 }
     ensures { result ≡ corrected w g }
 {
-    if 0x3f_ffff_ffff_ff00 <= g {
-        return Attempt {
-            good: false,
-            digits: 0,
-            rest: 0,
-        };
+    if g >= GUESS_LIMIT {
+        return None;
     }
-    let left = remainder_of(w, g);
-    let q = left.rest / (2 * g + 1);
-    if 64 <= q {
-        return Attempt {
-            good: false,
-            digits: 0,
-            rest: 0,
-        };
+    let left = remainder_of(w, g)?;
+    let q = left / (2 * g + 1);
+    if q >= STEP_LIMIT {
+        return None;
     }
-    let s = q * (2 * g + q);
-    let root = g + q;
-    if left.rest < s {
-        return Attempt {
-            good: false,
-            digits: 0,
-            rest: 0,
-        };
-    }
-    let rest = left.rest - s;
-    if 2 * root < rest {
-        return Attempt {
-            good: false,
-            digits: 0,
-            rest: 0,
-        };
-    }
-    Attempt {
-        good: left.fits,
-        digits: root,
-        rest: rest,
-    }
+    let rest = left.checked_sub(q * (2 * g + q))?;
+    let digits = g + q;
+    (rest <= 2 * digits).then_some(Digits { digits, rest })
 }
 
 // All digits of the root of w * 4^27 and the remainder: a guess that is tested, and digit by digit
@@ -195,12 +146,8 @@ pub fn root_digits(w: u64) -> Digits
     ensures root_digits { RootDigits w result.digits result.rest }
     ensures value { result ≡ all_digits w }
 {
-    let t = corrected(w, guess(w));
-    if t.good {
-        return Digits {
-            digits: t.digits,
-            rest: t.rest,
-        };
+    match corrected(w, guess(w)) {
+        Some(found) => found,
+        None => digit_by_digit(w),
     }
-    digit_by_digit(w)
 }

@@ -9,6 +9,12 @@ ghost use Rattle.root.specs.Digits.{Shift, rounded_half};
 
 mod digits;
 
+// 2^52: a float's bits are its exponent's field times this and what stands below the field.
+const FIELD_UNIT: u64 = 0x10_0000_0000_0000;
+
+// The bits of infinity.
+const INFINITY_BITS: u64 = 0x7ff0_0000_0000_0000;
+
 // Half of the square root of digits * digits + rest, to the nearest whole number, a tie to the even
 // one. The only rounding.
 fn rounded_half(digits: u64, rest: u64) -> u64
@@ -26,7 +32,7 @@ fn shift_of(d: u64) -> u64
     requires { (0 < d) × (d < 2 ^ 53) }
     ensures { Shift d result }
 {
-    (u64::leading_zeros(d) as u64) - 11
+    d.leading_zeros() as u64 - 11
 }
 
 // m * 2^k smallest values, with an m of 53 digits, or 2^53.
@@ -34,7 +40,7 @@ fn assembled(m: u64, k: u64) -> f64
     requires { (2 ^ 52 ≤ m) × (m ≤ 2 ^ 53) × (k < 2000) }
     ensures { result ≡ units binary64 false m k }
 {
-    f64::from_bits(k * 0x10_0000_0000_0000 + m)
+    f64::from_bits(k * FIELD_UNIT + m)
 }
 
 // The root of d * 2^e squares of the smallest value.
@@ -54,12 +60,12 @@ fn positive_root(b: u64) -> f64
     requires { (0 < b) × (b < 0x7ff0_0000_0000_0000) }
     ensures { result ≡ root (from_bits binary64 b) }
 {
-    let field = b / 0x10_0000_0000_0000;
-    let low = b % 0x10_0000_0000_0000;
+    let field = b / FIELD_UNIT;
+    let low = b % FIELD_UNIT;
     if field == 0 {
         return scaled_root(low, 1074);
     }
-    scaled_root(low + 0x10_0000_0000_0000, field + 1073)
+    scaled_root(low + FIELD_UNIT, field + 1073)
 }
 
 // squareRoot of IEEE 754, for every float.
@@ -67,14 +73,14 @@ pub fn root(x: f64) -> f64
     ensures { result ≡ root x }
 {
     if x > 0.0 {
-        let b = f64::to_bits(x);
-        if b < 0x7ff0_0000_0000_0000 {
+        let b = x.to_bits();
+        if b < INFINITY_BITS {
             return positive_root(b);
         }
         return x;
     }
     if x < 0.0 {
-        return 0.0 / 0.0;
+        return f64::NAN;
     }
     x
 }

@@ -1,15 +1,15 @@
 -- Worked numbers of scalars: the bits are those that Rust's division by `powi` and its cast print. Assumes nothing.
-use Rattle.std.specs.Prelude.{◌≡◌, refl, ℕ, true, pos, negsuc}
+use Rattle.std.specs.Prelude.{◌≡◌, refl, ℕ, true, pos, negsuc, None, unwrap_or}
 use Rattle.std.specs.Float.{binary64}
 use Rattle.std.specs.Float.Ieee.{to_bits, of_int, div}
+use Rattle.float.specs.Order.{f64_zero}
 use Rattle.float.specs.Tens.{power_of_ten}
-use Rattle.float.specs.Option.{none}
 use Rattle.scalar.specs.Number.{scalar_to_f64}
 use Rattle.scalar.specs.declared.Scalar.{Scalar}
 use Rattle.scalar.specs.declared.Scalar.TheVariants.{Null, Boolean, Int64, Decimal128}
 
 abbrev number_bits : Scalar → ℕ
-number_bits x = to_bits binary64 (scalar_to_f64 x).number
+number_bits x = to_bits binary64 (unwrap_or (scalar_to_f64 x) f64_zero)
 
 -- 123.45, and -1 at the largest scale
 decimal : number_bits (Decimal128 (pos 12345) 7 2) ≡ 0x405e_dccc_cccc_cccd
@@ -26,10 +26,10 @@ unfolding scalar_to_f64 of_int to_bits
 largest_int64 = refl
 
 -- these have no number
-no_boolean : scalar_to_f64 (Boolean true) ≡ none
+no_boolean : scalar_to_f64 (Boolean true) ≡ None
 unfolding scalar_to_f64
 no_boolean = refl
 
-no_null : scalar_to_f64 Null ≡ none
+no_null : scalar_to_f64 Null ≡ None
 unfolding scalar_to_f64
 no_null = refl

@@ -33,36 +33,8 @@ pub enum Scalar {
     },
 }
 
-// A column's bound.
-#[derive(Clone, Copy)]
-pub enum Bound {
-    Absent,
-    Present(Scalar),
-}
-
 pub fn is_null(x: Scalar) -> bool
     ensures { result ≡ is_null x }
 {
-    match x {
-        Scalar::Null => true,
-        Scalar::Boolean(_) => false,
-        Scalar::Int32(_) => false,
-        Scalar::Int64(_) => false,
-        Scalar::Float64(_) => false,
-        Scalar::Decimal128 {
-            value: _,
-            precision: _,
-            scale: _,
-        } => false,
-        Scalar::Date32(_) => false,
-        Scalar::IntervalMonthDayNano {
-            months: _,
-            days: _,
-            nanoseconds: _,
-        } => false,
-        Scalar::IntervalDayTime {
-            days: _,
-            milliseconds: _,
-        } => false,
-    }
+    matches!(x, Scalar::Null)
 }

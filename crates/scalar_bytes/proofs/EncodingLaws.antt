@@ -29,8 +29,7 @@ use Rattle.scalar_bytes.specs.Reading.{Refused, Lawful, tag_allowed, float64_law
 use Rattle.scalar_bytes.specs.Encoding.{encoded_bytes, extension, scalar_bytes, bound_bytes, in32, in64, lawful_scalar, lawful_bound, place_allows}
 use Rattle.scalar.specs.declared.Scalar.{Scalar}
 use Rattle.scalar.specs.declared.Scalar.TheVariants.{Null, Boolean, Int32, Int64, Float64, Decimal128, Date32, IntervalMonthDayNano, IntervalDayTime}
-use Rattle.scalar.specs.declared.Bound.{Bound}
-use Rattle.scalar.specs.declared.Bound.TheVariants.{Absent, Present}
+use Rattle.std.specs.Prelude.{Option, Some, None}
 use Rattle.scalar_bytes.specs.declared.reads.ScalarPlace.{ScalarPlace}
 use Rattle.scalar_bytes.specs.declared.reads.ScalarPlace.TheVariants.{Bound as AtBound}
 
@@ -48,10 +47,10 @@ scalar_length (Date32 x) = refl
 scalar_length (IntervalMonthDayNano months days nanoseconds) = refl
 scalar_length (IntervalDayTime days milliseconds) = refl
 
-pub bound_length : (b : Bound) → length (bound_bytes b) ≡ 19
+pub bound_length : (b : Option Scalar) → length (bound_bytes b) ≡ 19
 unfolding bound_bytes
-bound_length Absent = refl
-bound_length (Present x) = scalar_length x
+bound_length None = refl
+bound_length (Some x) = scalar_length x
 
 -- ---- the fields, each a width and a number
 
@@ -66,9 +65,9 @@ scalar_fields (Date32 x) = (1, 6) ∷ (4, unsigned 4 x) ∷ (14, 0) ∷ []
 scalar_fields (IntervalMonthDayNano months days nanoseconds) = (1, 8) ∷ (4, unsigned 4 months) ∷ (4, unsigned 4 days) ∷ (8, unsigned 8 nanoseconds) ∷ (2, 0) ∷ []
 scalar_fields (IntervalDayTime days milliseconds) = (1, 9) ∷ (4, unsigned 4 days) ∷ (4, unsigned 4 milliseconds) ∷ (10, 0) ∷ []
 
-abbrev bound_fields : Bound → List (ℕ × ℕ)
-bound_fields Absent = (1, 255) ∷ (18, 0) ∷ []
-bound_fields (Present x) = scalar_fields x
+abbrev bound_fields : Option Scalar → List (ℕ × ℕ)
+bound_fields None = (1, 255) ∷ (18, 0) ∷ []
+bound_fields (Some x) = scalar_fields x
 
 -- ---- what the tests say
 
@@ -101,22 +100,22 @@ decimal_parts x p s h =
 
 -- ---- the bytes of what is lawful are its fields
 
-record Written (b : Bound) : Type 0 where
+record Written (b : Option Scalar) : Type 0 where
   bytes : bound_bytes b ≡ fields_bytes (bound_fields b)
   fit : FieldsFit (bound_fields b)
 
-written : (b : Bound) → lawful_bound b ≡ true → Written b
+written : (b : Option Scalar) → lawful_bound b ≡ true → Written b
 unfolding bound_bytes encoded_bytes field_bytes lawful_bound
-written Absent h = record { bytes = refl; fit = (lit< tt, (lit< tt, tt)) }
-written (Present Null) h = record { bytes = refl; fit = (lit< tt, (lit< tt, tt)) }
-written (Present (Boolean true)) h = record { bytes = refl; fit = (lit< tt, (lit< tt, (lit< tt, tt))) }
-written (Present (Boolean false)) h = record { bytes = refl; fit = (lit< tt, (lit< tt, (lit< tt, tt))) }
-written (Present (Int32 x)) h = record { bytes = refl; fit = (lit< tt, (below 4 x h, (lit< tt, tt))) }
-written (Present (Int64 x)) h = record { bytes = refl; fit = (lit< tt, (below 8 x h, (lit< tt, tt))) }
-written (Present (Float64 x)) h =
+written None h = record { bytes = refl; fit = (lit< tt, (lit< tt, tt)) }
+written (Some Null) h = record { bytes = refl; fit = (lit< tt, (lit< tt, tt)) }
+written (Some (Boolean true)) h = record { bytes = refl; fit = (lit< tt, (lit< tt, (lit< tt, tt))) }
+written (Some (Boolean false)) h = record { bytes = refl; fit = (lit< tt, (lit< tt, (lit< tt, tt))) }
+written (Some (Int32 x)) h = record { bytes = refl; fit = (lit< tt, (below 4 x h, (lit< tt, tt))) }
+written (Some (Int64 x)) h = record { bytes = refl; fit = (lit< tt, (below 8 x h, (lit< tt, tt))) }
+written (Some (Float64 x)) h =
     let a = both_true (fits binary64 x) (float64_lawful x) h in
     record { bytes = rw (lawful_bits x a.1) refl; fit = (lit< tt, (to_bits-lt binary64 x (fits_true x h), (lit< tt, tt))) }
-written (Present (Decimal128 value precision scale)) h =
+written (Some (Decimal128 value precision scale)) h =
     let a = decimal_parts value precision scale h in
     let p : precision ≤ 38 = leb-true precision 38 a.2 in
     let q : scale ≤ 22 = leb-true scale 22 a.3 in
@@ -126,12 +125,12 @@ written (Present (Decimal128 value precision scale)) h =
       bytes = rw (value_bytes value (in64_is value a.0), mod-eq_of_lt u, mod-eq_of_lt v) refl;
       fit = (lit< tt, (u, (v, (below 8 value a.0, (extension_below value, tt)))));
     }
-written (Present (Date32 x)) h = record { bytes = refl; fit = (lit< tt, (below 4 x h, (lit< tt, tt))) }
-written (Present (IntervalMonthDayNano months days nanoseconds)) h =
+written (Some (Date32 x)) h = record { bytes = refl; fit = (lit< tt, (below 4 x h, (lit< tt, tt))) }
+written (Some (IntervalMonthDayNano months days nanoseconds)) h =
     let a = both_true (in32 months) _ h in
     let b = both_true (in32 days) (in64 nanoseconds) a.1 in
     record { bytes = refl; fit = (lit< tt, (below 4 months a.0, (below 4 days b.0, (below 8 nanoseconds b.1, (lit< tt, tt))))) }
-written (Present (IntervalDayTime days milliseconds)) h =
+written (Some (IntervalDayTime days milliseconds)) h =
     let a = both_true (in32 days) (in32 milliseconds) h in
     record { bytes = refl; fit = (lit< tt, (below 4 days a.0, (below 4 milliseconds a.1, (lit< tt, tt)))) }
 
@@ -160,29 +159,29 @@ value_extended x s at h e f =
     let v : i64_at s (at + 3) ≡ x = ap (signed 8) e ∙ back 7 x h in
     eq-eqb (field_at 16 s (at + 3)) (unsigned 16 (i64_at s (at + 3))) (q ∙ sym (ap (unsigned 16) v))
 
-read_fields : (place : ScalarPlace) (b : Bound) (s : List ℕ) (at : ℕ) → lawful_bound b ≡ true → place_allows place b ≡ true → FieldsAt (bound_fields b) s at 0 → read_scalar place s at ≡ Lawful b
+read_fields : (place : ScalarPlace) (b : Option Scalar) (s : List ℕ) (at : ℕ) → lawful_bound b ≡ true → place_allows place b ≡ true → FieldsAt (bound_fields b) s at 0 → read_scalar place s at ≡ Lawful b
 unfolding read_scalar lawful_bound place_allows
-read_fields place Absent s at h p f = rw (tag_is s at 255 f.0, p, f.1.0) refl
-read_fields place (Present Null) s at h p f = rw (tag_is s at 0 f.0, p, f.1.0) refl
-read_fields place (Present (Boolean true)) s at h p f = rw (tag_is s at 1 f.0, byte_is s (at + 1) 1 f.1.0, f.1.1.0) refl
-read_fields place (Present (Boolean false)) s at h p f = rw (tag_is s at 1 f.0, byte_is s (at + 1) 0 f.1.0, f.1.1.0) refl
-read_fields place (Present (Int32 x)) s at h p f = rw (tag_is s at 2 f.0, f.1.0, f.1.1.0, back 3 x h) refl
-read_fields place (Present (Int64 x)) s at h p f = rw (tag_is s at 3 f.0, f.1.0, f.1.1.0, back 7 x h) refl
-read_fields place (Present (Float64 x)) s at h p f =
+read_fields place None s at h p f = rw (tag_is s at 255 f.0, p, f.1.0) refl
+read_fields place (Some Null) s at h p f = rw (tag_is s at 0 f.0, p, f.1.0) refl
+read_fields place (Some (Boolean true)) s at h p f = rw (tag_is s at 1 f.0, byte_is s (at + 1) 1 f.1.0, f.1.1.0) refl
+read_fields place (Some (Boolean false)) s at h p f = rw (tag_is s at 1 f.0, byte_is s (at + 1) 0 f.1.0, f.1.1.0) refl
+read_fields place (Some (Int32 x)) s at h p f = rw (tag_is s at 2 f.0, f.1.0, f.1.1.0, back 3 x h) refl
+read_fields place (Some (Int64 x)) s at h p f = rw (tag_is s at 3 f.0, f.1.0, f.1.1.0, back 7 x h) refl
+read_fields place (Some (Float64 x)) s at h p f =
     let a = both_true (fits binary64 x) (float64_lawful x) h in
     rw (tag_is s at 4 f.0, f.1.0, f.1.1.0, of_bits-to_bits binary64 x (fits_true x h), a.1) refl
-read_fields place (Present (Decimal128 value precision scale)) s at h p f =
+read_fields place (Some (Decimal128 value precision scale)) s at h p f =
     let a = decimal_parts value precision scale h in
     let k : byte_at s (at + 1) ≡ precision = byte_is s (at + 1) precision f.1.0 in
     let l : byte_at s (at + 2) ≡ scale = byte_is s (at + 2) scale f.1.1.0 in
     let d : decimal_lawful s (at + 1) ≡ true = decimal_test s at ∙ rw (k, l, value_extended value s at a.0 f.1.1.1.0 f.1.1.1.1.0, a.1, a.2, a.3) refl in
     rw (tag_is s at 5 f.0, d, k, l, f.1.1.1.0, back 7 value a.0) refl
-read_fields place (Present (Date32 x)) s at h p f = rw (tag_is s at 6 f.0, f.1.0, f.1.1.0, back 3 x h) refl
-read_fields place (Present (IntervalMonthDayNano months days nanoseconds)) s at h p f =
+read_fields place (Some (Date32 x)) s at h p f = rw (tag_is s at 6 f.0, f.1.0, f.1.1.0, back 3 x h) refl
+read_fields place (Some (IntervalMonthDayNano months days nanoseconds)) s at h p f =
     let a = both_true (in32 months) _ h in
     let b = both_true (in32 days) (in64 nanoseconds) a.1 in
     rw (tag_is s at 8 f.0, f.1.0, f.1.1.0, f.1.1.1.0, f.1.1.1.1.0, back 3 months a.0, back 3 days b.0, back 7 nanoseconds b.1) refl
-read_fields place (Present (IntervalDayTime days milliseconds)) s at h p f =
+read_fields place (Some (IntervalDayTime days milliseconds)) s at h p f =
     let a = both_true (in32 days) (in32 milliseconds) h in
     rw (tag_is s at 9 f.0, f.1.0, f.1.1.0, f.1.1.1.0, back 3 days a.0, back 3 milliseconds a.1) refl
 
@@ -207,7 +206,7 @@ pick true x y f g e = f refl e
 pick false x y f g e = g e
 
 -- what the bytes keep that are accepted as b
-record Accepted (place : ScalarPlace) (s : List ℕ) (at : ℕ) (b : Bound) : Type 0 where
+record Accepted (place : ScalarPlace) (s : List ℕ) (at : ℕ) (b : Option Scalar) : Type 0 where
   allowed : place_allows place b ≡ true
   lawful : Bytes s → lawful_bound b ≡ true
   fields : Bytes s → FieldsAt (bound_fields b) s at 0
@@ -316,11 +315,11 @@ module _ (place : ScalarPlace) (s : List ℕ) (at : ℕ) where
   accepted r = by_tag r (value_kept r)
 
 -- what was read was accepted
-read_accepts : (place : ScalarPlace) (s : List ℕ) (at : ℕ) (b : Bound) → read_scalar place s at ≡ Lawful b → (scalar_refusal place s at ≡ 0) × (bound_at s at ≡ b)
+read_accepts : (place : ScalarPlace) (s : List ℕ) (at : ℕ) (b : Option Scalar) → read_scalar place s at ≡ Lawful b → (scalar_refusal place s at ≡ 0) × (bound_at s at ≡ b)
 unfolding read_scalar
 read_accepts place s at b = go (eqb (scalar_refusal place s at) 0) (scalar_refusal place s at) (bound_at s at) (eqb-true (scalar_refusal place s at) 0)
   where
-    go : (t : Bool) (n : ℕ) (x : Bound) → (t ≡ true → n ≡ 0) → cond t (Lawful x) (Refused n) ≡ Lawful b → (n ≡ 0) × (x ≡ b)
+    go : (t : Bool) (n : ℕ) (x : Option Scalar) → (t ≡ true → n ≡ 0) → cond t (Lawful x) (Refused n) ≡ Lawful b → (n ≡ 0) × (x ≡ b)
     go true n x f e = (f refl, cc)
     go false n x f e = let z : ◌≡◌ {A = ℕ} 0 1 = cc in absurd (omega arith)
 
@@ -335,38 +334,31 @@ accepted_lawful place s at k e = (accepted place s at e).lawful k
 -- an accepted scalar is written as it stood
 pub written_back : (place : ScalarPlace) (s : List ℕ) (at : ℕ) → Bytes s → at + 19 ≤ length s → scalar_refusal place s at ≡ 0 → bound_bytes (bound_at s at) ≡ take 19 (drop at s)
 written_back place s at k h e =
-    let b : Bound = bound_at s at in
+    let b : Option Scalar = bound_at s at in
     let w = written b (accepted_lawful place s at k e) in
     let n : widths (bound_fields b) ≡ 19 = sym (fields_length (bound_fields b)) ∙ ap length (sym w.bytes) ∙ bound_length b in
     let m : at + 0 + widths (bound_fields b) ≤ length s = omega arith in
     w.bytes ∙ fields_back (bound_fields b) s at 0 k m ((accepted place s at e).fields k) ∙ λ i. take (n i) (drop (add-zero at i) s)
 
-pub reads_lawful : (place : ScalarPlace) (b : Bound) (t : List ℕ) → lawful_bound b ≡ true → place_allows place b ≡ true → read_scalar place (bound_bytes b ++ t) 0 ≡ Lawful b
+pub reads_lawful : (place : ScalarPlace) (b : Option Scalar) (t : List ℕ) → lawful_bound b ≡ true → place_allows place b ≡ true → read_scalar place (bound_bytes b ++ t) 0 ≡ Lawful b
 reads_lawful place b t h p =
     let w = written b h in
     read_fields place b (bound_bytes b ++ t) 0 h p (fields_found (bound_fields b) (bound_bytes b ++ t) t 0 0 w.fit (ap (λ (l : List ℕ). l ++ t) w.bytes))
 
-pub reads_back : (place : ScalarPlace) (s : List ℕ) (at : ℕ) (b : Bound) → Bytes s → at + 19 ≤ length s → read_scalar place s at ≡ Lawful b → bound_bytes b ≡ take 19 (drop at s)
+pub reads_back : (place : ScalarPlace) (s : List ℕ) (at : ℕ) (b : Option Scalar) → Bytes s → at + 19 ≤ length s → read_scalar place s at ≡ Lawful b → bound_bytes b ≡ take 19 (drop at s)
 reads_back place s at b k h e = let a = read_accepts place s at b e in ap bound_bytes (sym a.1) ∙ written_back place s at k h a.0
 
 -- every lawful bound is accepted where the place allows it
-pub read_accepted : (place : ScalarPlace) (b : Bound) (t : List ℕ) → lawful_bound b ≡ true → place_allows place b ≡ true → scalar_refusal place (bound_bytes b ++ t) 0 ≡ 0
+pub read_accepted : (place : ScalarPlace) (b : Option Scalar) (t : List ℕ) → lawful_bound b ≡ true → place_allows place b ≡ true → scalar_refusal place (bound_bytes b ++ t) 0 ≡ 0
 read_accepted place b t h p = (read_accepts place (bound_bytes b ++ t) 0 b (reads_lawful place b t h p)).0
 
-bound_allows : (b : Bound) → place_allows AtBound b ≡ true
+pub bound_allows : (b : Option Scalar) → place_allows AtBound b ≡ true
 unfolding place_allows
-bound_allows Absent = refl
-bound_allows (Present Null) = refl
-bound_allows (Present (Boolean b)) = refl
-bound_allows (Present (Int32 x)) = refl
-bound_allows (Present (Int64 x)) = refl
-bound_allows (Present (Float64 x)) = refl
-bound_allows (Present (Decimal128 value precision scale)) = refl
-bound_allows (Present (Date32 x)) = refl
-bound_allows (Present (IntervalMonthDayNano months days nanoseconds)) = refl
-bound_allows (Present (IntervalDayTime days milliseconds)) = refl
+bound_allows None = refl
+bound_allows (Some Null) = refl
+bound_allows (Some _) = refl
 
-pub read_back : (b : Bound) (t : List ℕ) → lawful_bound b ≡ true → bound_at (bound_bytes b ++ t) 0 ≡ b
+pub read_back : (b : Option Scalar) (t : List ℕ) → lawful_bound b ≡ true → bound_at (bound_bytes b ++ t) 0 ≡ b
 read_back b t h = (read_accepts AtBound (bound_bytes b ++ t) 0 b (reads_lawful AtBound b t h (bound_allows b))).1
 
 -- lawful scalars are the same exactly where their bytes are
@@ -374,8 +366,8 @@ pub equal_bytes : (a b : Scalar) → lawful_scalar a ≡ true → lawful_scalar 
 unfolding bound_bytes lawful_bound
 equal_bytes a b h k = (
   λ e.
-      let p : bound_at (scalar_bytes a ++ []) 0 ≡ Present a = read_back (Present a) [] h in
-      let q : bound_at (scalar_bytes b ++ []) 0 ≡ Present b = read_back (Present b) [] k in
+      let p : bound_at (scalar_bytes a ++ []) 0 ≡ Some a = read_back (Some a) [] h in
+      let q : bound_at (scalar_bytes b ++ []) 0 ≡ Some b = read_back (Some b) [] k in
       cc,
   ap scalar_bytes,
 )

@@ -27,8 +27,8 @@ use Rattle.le.proofs.FieldLaws.{field_drop}
 use Rattle.rules.specs.Rules.{ask, or_else}
 use Rattle.scalar.specs.declared.Scalar.{Scalar}
 use Rattle.scalar.specs.declared.Scalar.TheVariants.{Null, Boolean, Int32, Int64, Float64, Decimal128, Date32, IntervalMonthDayNano, IntervalDayTime}
-use Rattle.scalar.specs.declared.Bound.{Bound}
-use Rattle.scalar.specs.declared.Bound.TheVariants.{Absent, Present}
+use Rattle.std.specs.Prelude.{Option, Some, None}
+use Rattle.std.proofs.lemmas.Option.{none-some, same_Some}
 use Rattle.layout.specs.Fields.{before, same, after, number_order, integer_order, float_order}
 use Rattle.layout.specs.Lawful.{Ordered, LawfulField, Figure}
 use Rattle.layout.proofs.OrderLaws.{keyed, then_ordered, same_equal, reverse_same}
@@ -215,23 +215,23 @@ bit_small : (t : Bool) → bit t < 2 ^ 63
 bit_small true = omega arith
 bit_small false = omega arith
 
-held : (b : Bound) → lawful_bound b ≡ true → Held (bound_parts b)
+held : (b : Option Scalar) → lawful_bound b ≡ true → Held (bound_parts b)
 unfolding lawful_bound bound_parts
-held Absent h = record { first = none; second = none; third = none; float = zero_sized }
-held (Present Null) h = record { first = none; second = none; third = none; float = zero_sized }
-held (Present (Boolean t)) h = record { first = bit_small t; second = none; third = none; float = zero_sized }
-held (Present (Int32 x)) h = record { first = wide x h; second = none; third = none; float = zero_sized }
-held (Present (Int64 x)) h = record { first = long x h; second = none; third = none; float = zero_sized }
-held (Present (Float64 x)) h =
+held None h = record { first = none; second = none; third = none; float = zero_sized }
+held (Some Null) h = record { first = none; second = none; third = none; float = zero_sized }
+held (Some (Boolean t)) h = record { first = bit_small t; second = none; third = none; float = zero_sized }
+held (Some (Int32 x)) h = record { first = wide x h; second = none; third = none; float = zero_sized }
+held (Some (Int64 x)) h = record { first = long x h; second = none; third = none; float = zero_sized }
+held (Some (Float64 x)) h =
     let a = both_true (fits binary64 x) (float64_lawful x) h in
     record { first = none; second = none; third = none; float = float_sized x (is_t (fits binary64 x) a.0) (is_t (float64_lawful x) a.1) }
-held (Present (Decimal128 value precision scale)) h = record { first = long value (both_true (in64 value) _ h).0; second = none; third = none; float = zero_sized }
-held (Present (Date32 x)) h = record { first = wide x h; second = none; third = none; float = zero_sized }
-held (Present (IntervalMonthDayNano months days nanoseconds)) h =
+held (Some (Decimal128 value precision scale)) h = record { first = long value (both_true (in64 value) _ h).0; second = none; third = none; float = zero_sized }
+held (Some (Date32 x)) h = record { first = wide x h; second = none; third = none; float = zero_sized }
+held (Some (IntervalMonthDayNano months days nanoseconds)) h =
     let a = both_true (in32 months) _ h in
     let b = both_true (in32 days) (in64 nanoseconds) a.1 in
     record { first = wide months a.0; second = wide days b.0; third = long nanoseconds b.1; float = zero_sized }
-held (Present (IntervalDayTime days milliseconds)) h =
+held (Some (IntervalDayTime days milliseconds)) h =
     let a = both_true (in32 days) (in32 milliseconds) h in
     record { first = wide days a.0; second = wide milliseconds a.1; third = none; float = zero_sized }
 
@@ -241,10 +241,10 @@ abbrev is_one : ℤ → Bool
 is_one (pos n) = eqb n 1
 is_one (negsuc n) = false
 
-abbrev rebuilt : Parts → Bound
+abbrev rebuilt : Parts → Option Scalar
 rebuilt p =
-    cond (eqb p.tag 255) Absent
-    (Present (cond (eqb p.tag 1) (Boolean (is_one p.first))
+    cond (eqb p.tag 255) None
+    (Some (cond (eqb p.tag 1) (Boolean (is_one p.first))
     (cond (eqb p.tag 2) (Int32 p.first)
     (cond (eqb p.tag 3) (Int64 p.first)
     (cond (eqb p.tag 4) (Float64 p.float)
@@ -253,23 +253,23 @@ rebuilt p =
     (cond (eqb p.tag 8) (IntervalMonthDayNano p.first p.second p.third)
     (cond (eqb p.tag 9) (IntervalDayTime p.first p.second) Null)))))))))
 
-rebuilt_is : (b : Bound) → rebuilt (bound_parts b) ≡ b
+rebuilt_is : (b : Option Scalar) → rebuilt (bound_parts b) ≡ b
 unfolding bound_parts
-rebuilt_is Absent = refl
-rebuilt_is (Present Null) = refl
-rebuilt_is (Present (Boolean true)) = refl
-rebuilt_is (Present (Boolean false)) = refl
-rebuilt_is (Present (Int32 x)) = refl
-rebuilt_is (Present (Int64 x)) = refl
-rebuilt_is (Present (Float64 x)) = refl
-rebuilt_is (Present (Decimal128 value precision scale)) = refl
-rebuilt_is (Present (Date32 x)) = refl
-rebuilt_is (Present (IntervalMonthDayNano months days nanoseconds)) = refl
-rebuilt_is (Present (IntervalDayTime days milliseconds)) = refl
+rebuilt_is None = refl
+rebuilt_is (Some Null) = refl
+rebuilt_is (Some (Boolean true)) = refl
+rebuilt_is (Some (Boolean false)) = refl
+rebuilt_is (Some (Int32 x)) = refl
+rebuilt_is (Some (Int64 x)) = refl
+rebuilt_is (Some (Float64 x)) = refl
+rebuilt_is (Some (Decimal128 value precision scale)) = refl
+rebuilt_is (Some (Date32 x)) = refl
+rebuilt_is (Some (IntervalMonthDayNano months days nanoseconds)) = refl
+rebuilt_is (Some (IntervalDayTime days milliseconds)) = refl
 
 -- ---- the order
 
-abbrev Lawful : Bound → Type 0
+abbrev Lawful : Option Scalar → Type 0
 Lawful b = lawful_bound b ≡ true
 
 integer_is : (a b : ℤ) → mag a < 2 ^ 63 → mag b < 2 ^ 63 → integer_order a b ≡ number_order (key_z a) (key_z b)
@@ -278,13 +278,13 @@ integer_is a b h k = λ i. cond (integer_key a b h k i) before (cond (integer_ke
 float_is : (x y : Float) → Sized x → Sized y → float_order x y ≡ number_order (key_f x) (key_f y)
 float_is x y f g = λ i. cond (float_key x y f g i) before (cond (float_key y x g f i) after same)
 
-by_number : (get : Bound → ℕ) → Ordered Lawful (λ x y. number_order (get x) (get y))
+by_number : (get : Option Scalar → ℕ) → Ordered Lawful (λ x y. number_order (get x) (get y))
 by_number get = keyed Lawful (λ x y. number_order (get x) (get y)) get (λ x y a b. refl)
 
-by_integer : (get : Bound → ℤ) → ((b : Bound) → Lawful b → mag (get b) < 2 ^ 63) → Ordered Lawful (λ x y. integer_order (get x) (get y))
+by_integer : (get : Option Scalar → ℤ) → ((b : Option Scalar) → Lawful b → mag (get b) < 2 ^ 63) → Ordered Lawful (λ x y. integer_order (get x) (get y))
 by_integer get h = keyed Lawful (λ x y. integer_order (get x) (get y)) (λ x. key_z (get x)) (λ x y a b. integer_is (get x) (get y) (h x a) (h y b))
 
-by_float : (get : Bound → Float) → ((b : Bound) → Lawful b → Sized (get b)) → Ordered Lawful (λ x y. float_order (get x) (get y))
+by_float : (get : Option Scalar → Float) → ((b : Option Scalar) → Lawful b → Sized (get b)) → Ordered Lawful (λ x y. float_order (get x) (get y))
 by_float get h = keyed Lawful (λ x y. float_order (get x) (get y)) (λ x. key_f (get x)) (λ x y a b. float_is (get x) (get y) (h x a) (h y b))
 
 bound_ordered : Ordered Lawful bound_order
@@ -304,7 +304,7 @@ same_integer a b h k e = key_integer a b h k (same_equal (key_z a) (key_z b) (sy
 same_float : (x y : Float) → Sized x → Sized y → float_order x y ≡ same → x ≡ y
 same_float x y f g e = key_float x y f g (same_equal (key_f x) (key_f y) (sym (float_is x y f g) ∙ e))
 
-same_bound : (x y : Bound) → Lawful x → Lawful y → bound_order x y ≡ same → x ≡ y
+same_bound : (x y : Option Scalar) → Lawful x → Lawful y → bound_order x y ≡ same → x ≡ y
 unfolding bound_order
 same_bound x y h k e =
     let p : Parts = bound_parts x in
@@ -326,17 +326,17 @@ same_bound x y h k e =
     ∙ (λ i. rebuilt (record { tag = tag i; precision = precision i; scale = scale i; first = first i; second = second i; third = third i; float = float i }))
     ∙ rebuilt_is y
 
-level_same : (b : Bound) → Lawful b → bound_order b b ≡ same
+level_same : (b : Option Scalar) → Lawful b → bound_order b b ≡ same
 level_same b h = reverse_same (bound_order b b) (bound_ordered.converse b b h h)
 
-pub bound_lawful : {C A : Type 0} (L : A → Type 0) (get : A → Bound) (rule : C → List ℕ → ℕ → ℕ) → ((x : A) → L x → lawful_bound (get x) ≡ true) → LawfulField {C = C} L (bound get rule)
+pub bound_lawful : {C A : Type 0} (L : A → Type 0) (get : A → Option Scalar) (rule : C → List ℕ → ℕ → ℕ) → ((x : A) → L x → lawful_bound (get x) ≡ true) → LawfulField {C = C} L (bound get rule)
 bound_lawful L get rule h = record {
   sized = λ x. bound_length (get x);
   ordered = part_ordered L Lawful get bound_order h bound_ordered;
   alike = λ x y a b e. ap bound_bytes (same_bound (get x) (get y) (h x a) (h y b) e);
   equal = λ x y a b e.
       let p : get x ≡ get y = sym (read_back (get x) [] (h x a)) ∙ ap (λ (l : List ℕ). bound_at (l ++ []) 0) e ∙ read_back (get y) [] (h y b) in
-      ap (λ (v : Bound). bound_order v (get y)) p ∙ level_same (get y) (h y b);
+      ap (λ (v : Option Scalar). bound_order v (get y)) p ∙ level_same (get y) (h y b);
 }
 
 -- ---- read and accepted wherever its bytes stand
@@ -396,24 +396,16 @@ module _ (s : List ℕ) (at : ℕ) where
       (λ i. or_else (ask (tag_allowed place (byte_front i)) 5) (or_else (value_refusal (byte_front i) (drop at s) 1) (ask (zeros_behind (byte_front i) (drop at s) 0) 5)))
       ∙ λ i. or_else (ask (tag_allowed place (byte_at s at)) 5) (or_else (value_shift (byte_at s at) i) (ask (zeros_shift (byte_at s at) i) 5))
 
-  pub bound_read : (x : Bound) (t : List ℕ) → lawful_bound x ≡ true → drop at s ≡ bound_bytes x ++ t → bound_at s at ≡ x
+  pub bound_read : (x : Option Scalar) (t : List ℕ) → lawful_bound x ≡ true → drop at s ≡ bound_bytes x ++ t → bound_at s at ≡ x
   bound_read x t h e = sym bound_shift ∙ ap (λ (l : List ℕ). bound_at l 0) e ∙ read_back x t h
 
-  pub bound_accepted : (place : ScalarPlace) (x : Bound) (t : List ℕ) → lawful_bound x ≡ true → place_allows place x ≡ true → drop at s ≡ bound_bytes x ++ t → scalar_refusal place s at ≡ 0
+  pub bound_accepted : (place : ScalarPlace) (x : Option Scalar) (t : List ℕ) → lawful_bound x ≡ true → place_allows place x ≡ true → drop at s ≡ bound_bytes x ++ t → scalar_refusal place s at ≡ 0
   bound_accepted place x t h p e = sym (scalar_shift place) ∙ ap (λ (l : List ℕ). scalar_refusal place l 0) e ∙ read_accepted place x t h p
 
-  pub scalar_read : (x : Scalar) (t : List ℕ) → lawful_scalar x ≡ true → drop at s ≡ bound_bytes (Present x) ++ t → scalar_at s at ≡ x
+  pub scalar_read : (x : Scalar) (t : List ℕ) → lawful_scalar x ≡ true → drop at s ≡ bound_bytes (Some x) ++ t → scalar_at s at ≡ x
   unfolding bound_at lawful_bound
-  scalar_read x t h e = go (eqb (byte_at s at) 255) (bound_read (Present x) t h e)
+  scalar_read x t h e = go (eqb (byte_at s at) 255) (bound_read (Some x) t h e)
     where
-      is_present : Bound → Bool
-      is_present Absent = false
-      is_present (Present y) = true
-
-      scalar_of : Bound → Scalar
-      scalar_of Absent = Null
-      scalar_of (Present y) = y
-
-      go : (b : Bool) → cond b Absent (Present (scalar_at s at)) ≡ Present x → scalar_at s at ≡ x
-      go true q = absurd (false≢true (ap is_present q))
-      go false q = ap scalar_of q
+      go : (b : Bool) → cond b None (Some (scalar_at s at)) ≡ Some x → scalar_at s at ≡ x
+      go true q = absurd (none-some x q)
+      go false q = same_Some (scalar_at s at) x q

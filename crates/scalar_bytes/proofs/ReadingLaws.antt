@@ -1,18 +1,18 @@
 -- Laws of reading a scalar. Assumes nothing.
-use Prim.Native.Nat.{ℕ, zero, suc, ◌+◌, ◌-◌, ◌*◌, ◌/◌, ◌^◌, ◌≤◌, ◌<◌}
+use Prim.Native.Nat.{ℕ, zero, suc, ◌+◌, ◌-◌, ◌*◌, ◌/◌, ◌%◌, ◌^◌, ◌≤◌, ◌<◌}
 use mathlib.Core.Path.{◌≡◌, refl, sym, ap, ◌∙◌}
-use mathlib.Core.Bool.{Bool, true, false, cond}
+use mathlib.Core.Bool.{Bool, true, false, cond, ◌&&◌}
 use mathlib.Core.List.{List}
 use native.Mathlib.Omega.{arith}
-use native.Mathlib.Nat.{suc-mul, mul-div_cancel, zero-lt-suc}
+use native.Mathlib.Nat.{suc-mul, mul-div_cancel, zero-lt-suc, mul-le-mul_left, one-le-pow, pow-le-pow_right, pow-suc, one-mul, mul-suc, mod-eq_of_lt, add-mul-mod_self_right}
 use lib.Dec.{eqb}
 use lib.IntN.{pos, negsuc}
 use borrow.Author.Tests.{eq-eqb, ne_eqb, lt-ltb, le-ltb, eqb-true, eqb-false}
 use Rattle.le.specs.Fields.{field_at}
 use Rattle.signed.specs.Signed.{signed, unsigned}
-use Rattle.le.proofs.FieldLaws.{field_split}
-use Rattle.rules.specs.Rules.{or_else}
-use Rattle.scalar_bytes.specs.Reading.{sign_extended}
+use Rattle.le.proofs.FieldLaws.{Bytes, field_below, field_split, zeros_split}
+use lib.Pow.{pow-add}
+use Rattle.scalar_bytes.specs.Reading.{zeros_at, sign_extended}
 
 -- ---- the sign extension
 
@@ -56,8 +56,47 @@ module _ (s : List ℕ) (at : ℕ) where
       (λ q. is_top 0xffff_ffff_ffff_ffff (field_at 8 s at) (field_at 8 s (at + 8)) m (sym e ∙ q)) in
       r ∙ sym (ap (λ (t : Bool). eqb (field_at 16 s at) (unsigned 16 (cond t (pos (field_at 8 s at)) (negsuc (2 ^ 64 - suc (field_at 8 s at)))))) (le-ltb (field_at 8 s at) (2 ^ 63) h))
 
--- ---- no bytes behind a decimal
+-- ---- zeros, part by part
 
-pub else_none : (a : ℕ) → or_else a 0 ≡ a
-else_none zero = refl
-else_none (suc a) = refl
+pub zeros_more : (n m : ℕ) (s : List ℕ) (at : ℕ) → field_at n s at ≡ 0 → field_at m s (at + n) ≡ 0 → field_at (n + m) s at ≡ 0
+zeros_more n m s at e f =
+    let p : field_at m s (at + n) * 256 ^ n ≡ 0 * 256 ^ n = ap (λ (x : ℕ). x * 256 ^ n) f in
+    let q = field_split n m s at in
+    omega arith
+
+zeros_part : (n m k : ℕ) (s : List ℕ) (at : ℕ) → n + m ≤ k → field_at k s at ≡ 0 → field_at m s (at + n) ≡ 0
+zeros_part n m k s at h e =
+    let r : field_at (n + m + (k - (n + m))) s at ≡ field_at k s at = ap (λ (j : ℕ). field_at j s at) (omega arith) in
+    let a = field_split (n + m) (k - (n + m)) s at in
+    let b = field_split n m s at in
+    let p : field_at m s (at + n) * 1 ≤ field_at m s (at + n) * 256 ^ n = mul-le-mul_left (field_at m s (at + n)) (one-le-pow n 256 (omega arith)) in
+    omega arith
+
+-- of k bytes, m behind the first n are not zeros
+pub zeros_broken : (n m k : ℕ) (s : List ℕ) (at : ℕ) → n + m ≤ k → (field_at m s (at + n) ≡ 0 → ⊥) → false ≡ zeros_at k s at
+zeros_broken n m k s at h b = sym (ne_eqb (field_at k s at) 0 (λ e. b (zeros_part n m k s at h e)))
+
+-- ---- the rest of n bytes, in eight
+
+bits_law : (r : ℕ) → 2 ^ (8 * r) ≡ 256 ^ r
+bits_law zero = refl
+bits_law (suc r) = ap (λ (n : ℕ). 2 ^ n) (mul-suc 8 r) ∙ pow-add 2 (8 * r) 8 ∙ ap (λ (x : ℕ). x * 256) (bits_law r) ∙ sym (pow-suc 256 r)
+
+-- the weight of byte r
+pub weight_law : (r : ℕ) → r < 8 → 1 * 2 ^ (8 * r) % 2 ^ 64 ≡ 256 ^ r
+weight_law r h =
+    let less : r ≤ 7 = omega arith in
+    let low : 256 ^ r ≤ 256 ^ 7 = pow-le-pow_right (omega arith) less in
+    let w : 1 * 2 ^ (8 * r) ≡ 256 ^ r = one-mul (2 ^ (8 * r)) ∙ bits_law r in
+    ap (λ (x : ℕ). x % 2 ^ 64) w ∙ mod-eq_of_lt (omega arith)
+
+pub rest_zeros : (m r : ℕ) (s : List ℕ) (at : ℕ) → Bytes s → r ≤ 8 → field_at m s at ≡ 0 → eqb (field_at 8 s (at + m) % 256 ^ r) 0 ≡ zeros_at (m + r) s at
+rest_zeros m r s at b h e =
+    let k : field_at 8 s (at + m) ≡ field_at (r + (8 - r)) s (at + m) = ap (λ (n : ℕ). field_at n s (at + m)) (omega arith) in
+    let rest : field_at 8 s (at + m) % 256 ^ r ≡ field_at r s (at + m) =
+    ap (λ (x : ℕ). x % 256 ^ r) (k ∙ field_split r (8 - r) s (at + m))
+    ∙ add-mul-mod_self_right (field_at r s (at + m)) (field_at (8 - r) s (at + m + r)) (256 ^ r)
+    ∙ mod-eq_of_lt (field_below r s (at + m) b) in
+    ap (λ (x : ℕ). eqb x 0) rest
+    ∙ ap (λ (t : Bool). t && eqb (field_at r s (at + m)) 0) (sym (eq-eqb (field_at m s at) 0 e))
+    ∙ zeros_split m r s at

@@ -5,7 +5,7 @@ use Rattle.std.specs.Float.Ieee.{of_bits, is_nan, to_bits, eq, le, neg}
 use Rattle.signed.specs.Signed.{signed, unsigned}
 use Rattle.le.specs.Fields.{field_at, field_bytes}
 use Rattle.scalar.specs.declared.Scalar.TheVariants.{Null, Boolean, Int32, Int64, Float64, Decimal128, Date32, IntervalMonthDayNano, IntervalDayTime}
-use Rattle.scalar.specs.declared.Bound.TheVariants.{Absent, Present}
+use Rattle.std.specs.Prelude.{Some, None}
 use Rattle.scalar_bytes.specs.Reading.{Refused, Lawful, read_scalar}
 use Rattle.scalar_bytes.specs.Encoding.{encoded_bytes, scalar_bytes}
 use Rattle.scalar_bytes.specs.declared.reads.ScalarPlace.TheVariants.{Literal, Bound as AtBound, Sketch}
@@ -14,7 +14,7 @@ boolean_written : scalar_bytes (Boolean true) ≡ 1 ∷ 1 ∷ 0 ∷ 0 ∷ 0 ∷ 
 unfolding encoded_bytes field_bytes unsigned to_bits
 boolean_written = refl
 
-boolean_read : read_scalar Literal (1 ∷ 1 ∷ 0 ∷ 0 ∷ 0 ∷ 0 ∷ 0 ∷ 0 ∷ 0 ∷ 0 ∷ 0 ∷ 0 ∷ 0 ∷ 0 ∷ 0 ∷ 0 ∷ 0 ∷ 0 ∷ 0 ∷ []) 0 ≡ Lawful (Present (Boolean true))
+boolean_read : read_scalar Literal (1 ∷ 1 ∷ 0 ∷ 0 ∷ 0 ∷ 0 ∷ 0 ∷ 0 ∷ 0 ∷ 0 ∷ 0 ∷ 0 ∷ 0 ∷ 0 ∷ 0 ∷ 0 ∷ 0 ∷ 0 ∷ 0 ∷ []) 0 ≡ Lawful (Some (Boolean true))
 unfolding read_scalar signed unsigned field_at of_bits le neg
 boolean_read = refl
 
@@ -22,7 +22,7 @@ int32_written : scalar_bytes (Int32 (negsuc 1)) ≡ 2 ∷ 0xfe ∷ 0xff ∷ 0xff
 unfolding encoded_bytes field_bytes unsigned to_bits
 int32_written = refl
 
-int32_read : read_scalar Literal (2 ∷ 0xfe ∷ 0xff ∷ 0xff ∷ 0xff ∷ 0 ∷ 0 ∷ 0 ∷ 0 ∷ 0 ∷ 0 ∷ 0 ∷ 0 ∷ 0 ∷ 0 ∷ 0 ∷ 0 ∷ 0 ∷ 0 ∷ []) 0 ≡ Lawful (Present (Int32 (negsuc 1)))
+int32_read : read_scalar Literal (2 ∷ 0xfe ∷ 0xff ∷ 0xff ∷ 0xff ∷ 0 ∷ 0 ∷ 0 ∷ 0 ∷ 0 ∷ 0 ∷ 0 ∷ 0 ∷ 0 ∷ 0 ∷ 0 ∷ 0 ∷ 0 ∷ 0 ∷ []) 0 ≡ Lawful (Some (Int32 (negsuc 1)))
 unfolding read_scalar signed unsigned field_at of_bits le neg
 int32_read = refl
 
@@ -30,7 +30,7 @@ int64_written : scalar_bytes (Int64 (pos 0x2_0000_0000)) ≡ 3 ∷ 0 ∷ 0 ∷ 0
 unfolding encoded_bytes field_bytes unsigned to_bits
 int64_written = refl
 
-int64_read : read_scalar Literal (3 ∷ 0 ∷ 0 ∷ 0 ∷ 0 ∷ 2 ∷ 0 ∷ 0 ∷ 0 ∷ 0 ∷ 0 ∷ 0 ∷ 0 ∷ 0 ∷ 0 ∷ 0 ∷ 0 ∷ 0 ∷ 0 ∷ []) 0 ≡ Lawful (Present (Int64 (pos 0x2_0000_0000)))
+int64_read : read_scalar Literal (3 ∷ 0 ∷ 0 ∷ 0 ∷ 0 ∷ 2 ∷ 0 ∷ 0 ∷ 0 ∷ 0 ∷ 0 ∷ 0 ∷ 0 ∷ 0 ∷ 0 ∷ 0 ∷ 0 ∷ 0 ∷ 0 ∷ []) 0 ≡ Lawful (Some (Int64 (pos 0x2_0000_0000)))
 unfolding read_scalar signed unsigned field_at of_bits le neg
 int64_read = refl
 
@@ -47,7 +47,7 @@ nan_written : scalar_bytes (Float64 nan) ≡ 4 ∷ 0 ∷ 0 ∷ 0 ∷ 0 ∷ 0 ∷
 unfolding encoded_bytes field_bytes unsigned eq is_nan to_bits
 nan_written = refl
 
-float64_read : read_scalar Literal (4 ∷ 0 ∷ 0 ∷ 0 ∷ 0 ∷ 0 ∷ 0 ∷ 0xf8 ∷ 0xbf ∷ 0 ∷ 0 ∷ 0 ∷ 0 ∷ 0 ∷ 0 ∷ 0 ∷ 0 ∷ 0 ∷ 0 ∷ []) 0 ≡ Lawful (Present (Float64 (fin true 3 (negsuc 0))))
+float64_read : read_scalar Literal (4 ∷ 0 ∷ 0 ∷ 0 ∷ 0 ∷ 0 ∷ 0 ∷ 0xf8 ∷ 0xbf ∷ 0 ∷ 0 ∷ 0 ∷ 0 ∷ 0 ∷ 0 ∷ 0 ∷ 0 ∷ 0 ∷ 0 ∷ []) 0 ≡ Lawful (Some (Float64 (fin true 3 (negsuc 0))))
 unfolding read_scalar signed unsigned field_at of_bits le neg
 float64_read = refl
 
@@ -55,7 +55,7 @@ decimal_written : scalar_bytes (Decimal128 (negsuc 12344) 7 2) ≡ 5 ∷ 7 ∷ 2
 unfolding encoded_bytes field_bytes unsigned to_bits
 decimal_written = refl
 
-decimal_read : read_scalar Literal (5 ∷ 7 ∷ 2 ∷ 0xc7 ∷ 0xcf ∷ 0xff ∷ 0xff ∷ 0xff ∷ 0xff ∷ 0xff ∷ 0xff ∷ 0xff ∷ 0xff ∷ 0xff ∷ 0xff ∷ 0xff ∷ 0xff ∷ 0xff ∷ 0xff ∷ []) 0 ≡ Lawful (Present (Decimal128 (negsuc 12344) 7 2))
+decimal_read : read_scalar Literal (5 ∷ 7 ∷ 2 ∷ 0xc7 ∷ 0xcf ∷ 0xff ∷ 0xff ∷ 0xff ∷ 0xff ∷ 0xff ∷ 0xff ∷ 0xff ∷ 0xff ∷ 0xff ∷ 0xff ∷ 0xff ∷ 0xff ∷ 0xff ∷ 0xff ∷ []) 0 ≡ Lawful (Some (Decimal128 (negsuc 12344) 7 2))
 unfolding read_scalar signed unsigned field_at of_bits le neg
 decimal_read = refl
 
@@ -63,7 +63,7 @@ date32_written : scalar_bytes (Date32 (pos 19000)) ≡ 6 ∷ 0x38 ∷ 0x4a ∷ 0
 unfolding encoded_bytes field_bytes unsigned to_bits
 date32_written = refl
 
-date32_read : read_scalar Literal (6 ∷ 0x38 ∷ 0x4a ∷ 0 ∷ 0 ∷ 0 ∷ 0 ∷ 0 ∷ 0 ∷ 0 ∷ 0 ∷ 0 ∷ 0 ∷ 0 ∷ 0 ∷ 0 ∷ 0 ∷ 0 ∷ 0 ∷ []) 0 ≡ Lawful (Present (Date32 (pos 19000)))
+date32_read : read_scalar Literal (6 ∷ 0x38 ∷ 0x4a ∷ 0 ∷ 0 ∷ 0 ∷ 0 ∷ 0 ∷ 0 ∷ 0 ∷ 0 ∷ 0 ∷ 0 ∷ 0 ∷ 0 ∷ 0 ∷ 0 ∷ 0 ∷ 0 ∷ []) 0 ≡ Lawful (Some (Date32 (pos 19000)))
 unfolding read_scalar signed unsigned field_at of_bits le neg
 date32_read = refl
 
@@ -71,7 +71,7 @@ month_day_nano_written : scalar_bytes (IntervalMonthDayNano (negsuc 1) (pos 1900
 unfolding encoded_bytes field_bytes unsigned to_bits
 month_day_nano_written = refl
 
-month_day_nano_read : read_scalar Literal (8 ∷ 0xfe ∷ 0xff ∷ 0xff ∷ 0xff ∷ 0x38 ∷ 0x4a ∷ 0 ∷ 0 ∷ 0xff ∷ 0xff ∷ 0xff ∷ 0xff ∷ 0xff ∷ 0xff ∷ 0xff ∷ 0xff ∷ 0 ∷ 0 ∷ []) 0 ≡ Lawful (Present (IntervalMonthDayNano (negsuc 1) (pos 19000) (negsuc 0)))
+month_day_nano_read : read_scalar Literal (8 ∷ 0xfe ∷ 0xff ∷ 0xff ∷ 0xff ∷ 0x38 ∷ 0x4a ∷ 0 ∷ 0 ∷ 0xff ∷ 0xff ∷ 0xff ∷ 0xff ∷ 0xff ∷ 0xff ∷ 0xff ∷ 0xff ∷ 0 ∷ 0 ∷ []) 0 ≡ Lawful (Some (IntervalMonthDayNano (negsuc 1) (pos 19000) (negsuc 0)))
 unfolding read_scalar signed unsigned field_at of_bits le neg
 month_day_nano_read = refl
 
@@ -79,7 +79,7 @@ day_time_written : scalar_bytes (IntervalDayTime (pos 19000) (negsuc 1)) ≡ 9 �
 unfolding encoded_bytes field_bytes unsigned to_bits
 day_time_written = refl
 
-day_time_read : read_scalar Literal (9 ∷ 0x38 ∷ 0x4a ∷ 0 ∷ 0 ∷ 0xfe ∷ 0xff ∷ 0xff ∷ 0xff ∷ 0 ∷ 0 ∷ 0 ∷ 0 ∷ 0 ∷ 0 ∷ 0 ∷ 0 ∷ 0 ∷ 0 ∷ []) 0 ≡ Lawful (Present (IntervalDayTime (pos 19000) (negsuc 1)))
+day_time_read : read_scalar Literal (9 ∷ 0x38 ∷ 0x4a ∷ 0 ∷ 0 ∷ 0xfe ∷ 0xff ∷ 0xff ∷ 0xff ∷ 0 ∷ 0 ∷ 0 ∷ 0 ∷ 0 ∷ 0 ∷ 0 ∷ 0 ∷ 0 ∷ 0 ∷ []) 0 ≡ Lawful (Some (IntervalDayTime (pos 19000) (negsuc 1)))
 unfolding read_scalar signed unsigned field_at of_bits le neg
 day_time_read = refl
 
@@ -87,7 +87,7 @@ null_written : scalar_bytes Null ≡ 0 ∷ 0 ∷ 0 ∷ 0 ∷ 0 ∷ 0 ∷ 0 ∷ 0
 unfolding encoded_bytes field_bytes unsigned to_bits
 null_written = refl
 
-null_read : read_scalar Literal (0 ∷ 0 ∷ 0 ∷ 0 ∷ 0 ∷ 0 ∷ 0 ∷ 0 ∷ 0 ∷ 0 ∷ 0 ∷ 0 ∷ 0 ∷ 0 ∷ 0 ∷ 0 ∷ 0 ∷ 0 ∷ 0 ∷ []) 0 ≡ Lawful (Present Null)
+null_read : read_scalar Literal (0 ∷ 0 ∷ 0 ∷ 0 ∷ 0 ∷ 0 ∷ 0 ∷ 0 ∷ 0 ∷ 0 ∷ 0 ∷ 0 ∷ 0 ∷ 0 ∷ 0 ∷ 0 ∷ 0 ∷ 0 ∷ 0 ∷ []) 0 ≡ Lawful (Some Null)
 unfolding read_scalar signed unsigned field_at of_bits le neg
 null_read = refl
 
@@ -175,10 +175,10 @@ absent_in_sketch = refl
 
 -- ---- bounds: absent, and Null
 
-absent_bound : read_scalar AtBound (0xff ∷ 0 ∷ 0 ∷ 0 ∷ 0 ∷ 0 ∷ 0 ∷ 0 ∷ 0 ∷ 0 ∷ 0 ∷ 0 ∷ 0 ∷ 0 ∷ 0 ∷ 0 ∷ 0 ∷ 0 ∷ 0 ∷ []) 0 ≡ Lawful Absent
+absent_bound : read_scalar AtBound (0xff ∷ 0 ∷ 0 ∷ 0 ∷ 0 ∷ 0 ∷ 0 ∷ 0 ∷ 0 ∷ 0 ∷ 0 ∷ 0 ∷ 0 ∷ 0 ∷ 0 ∷ 0 ∷ 0 ∷ 0 ∷ 0 ∷ []) 0 ≡ Lawful None
 unfolding read_scalar signed unsigned field_at of_bits le neg
 absent_bound = refl
 
-null_bound : read_scalar AtBound (0 ∷ 0 ∷ 0 ∷ 0 ∷ 0 ∷ 0 ∷ 0 ∷ 0 ∷ 0 ∷ 0 ∷ 0 ∷ 0 ∷ 0 ∷ 0 ∷ 0 ∷ 0 ∷ 0 ∷ 0 ∷ 0 ∷ []) 0 ≡ Lawful (Present Null)
+null_bound : read_scalar AtBound (0 ∷ 0 ∷ 0 ∷ 0 ∷ 0 ∷ 0 ∷ 0 ∷ 0 ∷ 0 ∷ 0 ∷ 0 ∷ 0 ∷ 0 ∷ 0 ∷ 0 ∷ 0 ∷ 0 ∷ 0 ∷ 0 ∷ []) 0 ≡ Lawful (Some Null)
 unfolding read_scalar signed unsigned field_at of_bits le neg
 null_bound = refl

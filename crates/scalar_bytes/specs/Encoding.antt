@@ -12,8 +12,7 @@ use Rattle.layout.specs.Places.{scalar_size, decimal_digits_size}
 use Rattle.scalar_bytes.specs.Reading.{tag_allowed, float64_lawful}
 use Rattle.scalar.specs.declared.Scalar.{Scalar}
 use Rattle.scalar.specs.declared.Scalar.TheVariants.{Null, Boolean, Int32, Int64, Float64, Decimal128, Date32, IntervalMonthDayNano, IntervalDayTime}
-use Rattle.scalar.specs.declared.Bound.{Bound}
-use Rattle.scalar.specs.declared.Bound.TheVariants.{Absent, Present}
+use Rattle.std.specs.Prelude.{Option, Some, None}
 use Rattle.scalar_bytes.specs.declared.reads.ScalarPlace.{ScalarPlace}
 
 -- ---- the bytes
@@ -46,9 +45,9 @@ padded bs = bs ++ replicate (scalar_size - length bs) 0
 abbrev pub scalar_bytes : Scalar → List ℕ
 scalar_bytes x = padded (encoded_bytes x)
 
-unfoldable pub bound_bytes : Bound → List ℕ
-bound_bytes Absent = padded (255 ∷ [])
-bound_bytes (Present x) = scalar_bytes x
+unfoldable pub bound_bytes : Option Scalar → List ℕ
+bound_bytes None = padded (255 ∷ [])
+bound_bytes (Some x) = scalar_bytes x
 
 -- ---- the scalars that a sheet may hold, by their numbers
 
@@ -69,13 +68,13 @@ lawful_scalar (Date32 x) = in32 x
 lawful_scalar (IntervalMonthDayNano months days nanoseconds) = in32 months && (in32 days && in64 nanoseconds)
 lawful_scalar (IntervalDayTime days milliseconds) = in32 days && in32 milliseconds
 
-unfoldable pub lawful_bound : Bound → Bool
+unfoldable pub lawful_bound : Option Scalar → Bool
 unfolding lawful_scalar
-lawful_bound Absent = true
-lawful_bound (Present x) = lawful_scalar x
+lawful_bound None = true
+lawful_bound (Some x) = lawful_scalar x
 
 -- ---- where a bound may stand: by the tag that is written
 
-unfoldable pub place_allows : ScalarPlace → Bound → Bool
+unfoldable pub place_allows : ScalarPlace → Option Scalar → Bool
 unfolding bound_bytes encoded_bytes field_bytes
 place_allows place b = tag_allowed place (byte_at (bound_bytes b) 0)

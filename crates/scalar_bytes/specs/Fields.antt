@@ -4,8 +4,7 @@ use Rattle.float.specs.Integers.{bit}
 use Rattle.float.specs.Order.{f64_zero}
 use Rattle.scalar.specs.declared.Scalar.{Scalar}
 use Rattle.scalar.specs.declared.Scalar.TheVariants.{Null, Boolean, Int32, Int64, Float64, Decimal128, Date32, IntervalMonthDayNano, IntervalDayTime}
-use Rattle.scalar.specs.declared.Bound.{Bound}
-use Rattle.scalar.specs.declared.Bound.TheVariants.{Absent, Present}
+use Rattle.std.specs.Prelude.{Option, Some, None}
 use Rattle.layout.specs.Places.{scalar_size}
 use Rattle.layout.specs.Fields.{Order, order_then, number_order, integer_order, float_order, Field}
 use Rattle.scalar_bytes.specs.Encoding.{bound_bytes}
@@ -36,10 +35,10 @@ scalar_parts (Date32 x) = whole_parts 6 x (pos 0) (pos 0)
 scalar_parts (IntervalMonthDayNano months days nanoseconds) = whole_parts 8 months days nanoseconds
 scalar_parts (IntervalDayTime days milliseconds) = whole_parts 9 days milliseconds (pos 0)
 
-unfoldable pub bound_parts : Bound → Parts
+unfoldable pub bound_parts : Option Scalar → Parts
 unfolding scalar_parts
-bound_parts Absent = whole_parts 255 (pos 0) (pos 0) (pos 0)
-bound_parts (Present x) = scalar_parts x
+bound_parts None = whole_parts 255 (pos 0) (pos 0) (pos 0)
+bound_parts (Some x) = scalar_parts x
 
 -- ---- the order
 
@@ -53,14 +52,14 @@ parts_order x y =
     (order_then (integer_order x.third y.third)
     (float_order x.float y.float))))))
 
-unfoldable pub bound_order : Bound → Bound → Order
+unfoldable pub bound_order : Option Scalar → Option Scalar → Order
 unfolding bound_parts
 bound_order x y = parts_order (bound_parts x) (bound_parts y)
 
 -- ---- fields
 
 -- a scalar, or none
-abbrev pub bound : {C A : Type 0} → (A → Bound) → (C → List ℕ → ℕ → ℕ) → Field C A
+abbrev pub bound : {C A : Type 0} → (A → Option Scalar) → (C → List ℕ → ℕ → ℕ) → Field C A
 bound get rule = record {
   width = scalar_size;
   refusal = rule;
@@ -69,4 +68,4 @@ bound get rule = record {
 }
 
 abbrev pub scalar : {C A : Type 0} → (A → Scalar) → (C → List ℕ → ℕ → ℕ) → Field C A
-scalar get = bound (λ x. Present (get x))
+scalar get = bound (λ x. Some (get x))

@@ -11,8 +11,7 @@ use Rattle.rules.specs.Rules.{ask, or_else}
 use Rattle.layout.specs.Places.{float_size, scalar_value_offset, scalar_value_size, boolean_size, int32_size, int64_size, decimal_scale_offset, decimal_digits_offset, decimal_digits_size, decimal_size, month_day_nano_days_offset, month_day_nano_nanoseconds_offset, month_day_nano_size, day_time_milliseconds_offset, day_time_size}
 use Rattle.scalar.specs.declared.Scalar.{Scalar}
 use Rattle.scalar.specs.declared.Scalar.TheVariants.{Null, Boolean, Int32, Int64, Float64, Decimal128, Date32, IntervalMonthDayNano, IntervalDayTime}
-use Rattle.scalar.specs.declared.Bound.{Bound}
-use Rattle.scalar.specs.declared.Bound.TheVariants.{Absent, Present}
+use Rattle.std.specs.Prelude.{Option, Some, None}
 use Rattle.scalar_bytes.specs.declared.reads.ScalarPlace.{ScalarPlace}
 use Rattle.scalar_bytes.specs.declared.reads.ScalarPlace.TheVariants.{Literal, Bound as AtBound, Sketch}
 
@@ -114,13 +113,13 @@ scalar_at s at =
     (cond (eqb tag 8) (IntervalMonthDayNano (i32_at s (at + value)) (i32_at s (at + (value + month_day_nano_days_offset))) (i64_at s (at + (value + month_day_nano_nanoseconds_offset))))
     (cond (eqb tag 9) (IntervalDayTime (i32_at s (at + value)) (i32_at s (at + (value + day_time_milliseconds_offset)))) Null)))))))
 
-unfoldable pub bound_at : List ℕ → ℕ → Bound
+unfoldable pub bound_at : List ℕ → ℕ → Option Scalar
 unfolding scalar_at
-bound_at s at = cond (eqb (byte_at s at) 255) Absent (Present (scalar_at s at))
+bound_at s at = cond (eqb (byte_at s at) 255) None (Some (scalar_at s at))
 
 pub data ReadScalar : Type 0 where
   Refused : ℕ → ReadScalar
-  Lawful : Bound → ReadScalar
+  Lawful : Option Scalar → ReadScalar
 
 -- every 19 bytes, at every place: the rule that they break, and else what they stand for
 unfoldable pub read_scalar : ScalarPlace → List ℕ → ℕ → ReadScalar

@@ -2,4 +2,5 @@
 #![tactic(auto)]
 
 pub mod reads;
+mod tags;
 pub mod writes;

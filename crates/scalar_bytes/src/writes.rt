@@ -7,15 +7,19 @@ ghost use Rattle.signed.specs.Signed.{unsigned};
 ghost use Rattle.le.specs.Integers.{i32_bytes, i64_bytes};
 ghost use Rattle.scalar_bytes.specs.Encoding.{encoded_bits, extension, encoded_bytes, padded, scalar_bytes, bound_bytes};
 
+use crate::tags::{
+    ABSENT, BOOLEAN, DATE32, DAY_TIME, DECIMAL128, FLOAT64, INT32, INT64, MONTH_DAY_NANO, NULL,
+};
 use float::bits::bits_of_float;
 use float::integers::one_if;
 use layout::{
     DAY_TIME_MILLISECONDS_OFFSET, DECIMAL_DIGITS_OFFSET, DECIMAL_SCALE_OFFSET, INT64_SIZE,
-    MONTH_DAY_NANO_DAYS_OFFSET, MONTH_DAY_NANO_NANOSECONDS_OFFSET, SCALAR_VALUE_OFFSET,
+    MONTH_DAY_NANO_DAYS_OFFSET, MONTH_DAY_NANO_NANOSECONDS_OFFSET, SCALAR_SIZE,
+    SCALAR_VALUE_OFFSET,
 };
 use le::integers::{put_i32, put_i64};
 use le::writes::{put_byte, put_u16, put_u64};
-use scalar::{Bound, Scalar};
+use scalar::Scalar;
 
 // Parts of a value, from the scalar's first byte.
 const SCALE_AT: usize = SCALAR_VALUE_OFFSET + DECIMAL_SCALE_OFFSET;
@@ -34,17 +38,14 @@ fn put_zeros(out: &mut [u8])
     requires { scalar_size ≤ length out.old }
     ensures { out.new ≡ onto (replicate scalar_size 0) out.old }
 {
-    put_u64(out, 0);
-    put_u64(&mut out[8..], 0);
-    put_u16(&mut out[16..], 0);
-    put_byte(&mut out[18..], 0);
+    out[..SCALAR_SIZE].fill(0);
 }
 
 fn put_boolean(out: &mut [u8], b: bool)
     requires { scalar_size ≤ length out.old }
     ensures { out.new ≡ onto (1 ∷ bit b ∷ []) out.old }
 {
-    put_byte(out, 1);
+    put_byte(out, BOOLEAN);
     put_byte(&mut out[SCALAR_VALUE_OFFSET..], one_if(b));
 }
 
@@ -60,7 +61,7 @@ fn put_int64(out: &mut [u8], x: i64)
     requires { scalar_size ≤ length out.old }
     ensures { out.new ≡ onto (3 ∷ i64_bytes x) out.old }
 {
-    put_byte(out, 3);
+    put_byte(out, INT64);
     put_i64(&mut out[SCALAR_VALUE_OFFSET..], x);
 }
 
@@ -68,20 +69,14 @@ fn put_int64(out: &mut [u8], x: i64)
 fn encoded_bits(x: f64) -> u64
     ensures { result ≡ encoded_bits x }
 {
-    if x == 0.0 {
-        return 0;
-    }
-    if x == x {
-        return bits_of_float(x);
-    }
-    0x7ff8_0000_0000_0000
+    if x == 0.0 { 0 } else { bits_of_float(x) }
 }
 
 fn put_float64(out: &mut [u8], x: f64)
     requires { scalar_size ≤ length out.old }
     ensures { out.new ≡ onto (4 ∷ u64_bytes (encoded_bits x)) out.old }
 {
-    put_byte(out, 4);
+    put_byte(out, FLOAT64);
     put_u64(&mut out[SCALAR_VALUE_OFFSET..], encoded_bits(x));
 }
 
@@ -96,7 +91,7 @@ fn put_decimal(out: &mut [u8], value: i64, precision: u8, scale: u8)
     requires { scalar_size ≤ length out.old }
     ensures { out.new ≡ onto (5 ∷ precision ∷ scale ∷ field_bytes decimal_digits_size (unsigned decimal_digits_size value)) out.old }
 {
-    put_byte(out, 5);
+    put_byte(out, DECIMAL128);
     put_byte(&mut out[SCALAR_VALUE_OFFSET..], precision);
     put_byte(&mut out[SCALE_AT..], scale);
     put_i64(&mut out[DIGITS_AT..], value);
@@ -107,7 +102,7 @@ fn put_month_day_nano(out: &mut [u8], months: i32, days: i32, nanoseconds: i64)
     requires { scalar_size ≤ length out.old }
     ensures { out.new ≡ onto (8 ∷ (i32_bytes months ++ (i32_bytes days ++ i64_bytes nanoseconds))) out.old }
 {
-    put_int32(out, 8, months);
+    put_int32(out, MONTH_DAY_NANO, months);
     put_i32(&mut out[DAYS_AT..], days);
     put_i64(&mut out[NANOSECONDS_AT..], nanoseconds);
 }
@@ -116,18 +111,19 @@ fn put_day_time(out: &mut [u8], days: i32, milliseconds: i32)
     requires { scalar_size ≤ length out.old }
     ensures { out.new ≡ onto (9 ∷ (i32_bytes days ++ i32_bytes milliseconds)) out.old }
 {
-    put_int32(out, 9, days);
+    put_int32(out, DAY_TIME, days);
     put_i32(&mut out[MILLISECONDS_AT..], milliseconds);
 }
 
+#[tactic(auto, using(signed::proofs::SignedLaws::kept), unfolding(crate::specs::Encoding::encoded_bytes))]
 fn put_encoded(out: &mut [u8], x: Scalar)
     requires { scalar_size ≤ length out.old }
     ensures { out.new ≡ onto (encoded_bytes x) out.old }
 {
     match x {
-        Scalar::Null => put_byte(out, 0),
+        Scalar::Null => put_byte(out, NULL),
         Scalar::Boolean(b) => put_boolean(out, b),
-        Scalar::Int32(v) => put_int32(out, 2, v),
+        Scalar::Int32(v) => put_int32(out, INT32, v),
         Scalar::Int64(v) => put_int64(out, v),
         Scalar::Float64(v) => put_float64(out, v),
         Scalar::Decimal128 {
@@ -135,7 +131,7 @@ fn put_encoded(out: &mut [u8], x: Scalar)
             precision,
             scale,
         } => put_decimal(out, value, precision, scale),
-        Scalar::Date32(v) => put_int32(out, 6, v),
+        Scalar::Date32(v) => put_int32(out, DATE32, v),
         Scalar::IntervalMonthDayNano {
             months,
             days,
@@ -153,13 +149,14 @@ pub fn put_scalar(out: &mut [u8], x: Scalar)
     put_encoded(out, x);
 }
 
-pub fn put_bound(out: &mut [u8], x: Bound)
+#[tactic(auto, unfolding(crate::specs::Encoding::bound_bytes))]
+pub fn put_bound(out: &mut [u8], x: Option<Scalar>)
     requires { scalar_size ≤ length out.old }
     ensures { out.new ≡ onto (bound_bytes x) out.old }
 {
     match x {
-        Bound::Absent => put_absent(out),
-        Bound::Present(v) => put_scalar(out, v),
+        None => put_absent(out),
+        Some(v) => put_scalar(out, v),
     }
 }
 
@@ -168,5 +165,5 @@ fn put_absent(out: &mut [u8])
     ensures { out.new ≡ onto (padded (255 ∷ [])) out.old }
 {
     put_zeros(out);
-    put_byte(out, 255);
+    put_byte(out, ABSENT);
 }

@@ -9,6 +9,7 @@ use native.Mathlib.Omega.{arith}
 use native.Mathlib.Decide.{ℕ_discrete}
 use native.Mathlib.Nat.{le_of_suc-le-suc}
 use lib.ListN.{length, get_or}
+use Rattle.std.specs.List.{filter, range_with_len}
 use Rattle.selection.specs.Selected.{selected}
 
 -- ---- which they are
@@ -54,6 +55,12 @@ selected_length test i (suc n) = go (test i) (length (selected test (i + 1) n)) 
     go : (b : Bool) (m : ℕ) → length (selected test (i + 1) n) ≡ m → m ≤ n → length (cond b (i ∷ selected test (i + 1) n) (selected test (i + 1) n)) ≤ suc n
     go true m e h = omega arith
     go false m e h = omega arith
+
+-- those that a filter takes from a range
+pub selected_filter : (test : ℕ → Bool) (i n : ℕ) → filter test (range_with_len i n) ≡ selected test i n
+unfolding selected
+selected_filter test i zero = refl
+selected_filter test i (suc n) = rw (selected_filter test (i + 1) n) refl
 
 -- tests that agree select the same
 pub selected_alike : (test other : ℕ → Bool) (i n : ℕ) → ((c : ℕ) → i ≤ c → c < i + n → test c ≡ other c) → selected test i n ≡ selected other i n

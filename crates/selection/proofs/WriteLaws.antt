@@ -1,16 +1,14 @@
 -- A loop that writes the selected numbers one after the other, two bytes each: a case of `Filled`. Assumes nothing.
 use Prim.Native.Nat.{ℕ, ◌+◌, ◌-◌, ◌*◌, ◌≤◌, ◌<◌}
 use mathlib.Core.Path.{◌≡◌, refl, sym, ap, ◌∙◌}
-use mathlib.Core.Bool.{Bool, true, false}
-use mathlib.Core.List.{List, [], ◌++◌}
+use mathlib.Core.Bool.{Bool, true, false, cond}
+use mathlib.Core.List.{List, [], ◌∷◌, ◌++◌}
 use native.Mathlib.Omega.{arith}
-use borrow.Author.Tests.{ltb-true, ltb-false}
-use lib.Dec.{ltb}
 use lib.ListN.{length, take, drop}
 use Rattle.le.specs.Fields.{onto}
 use Rattle.number_bytes.specs.Numbers.{numbers_bytes}
 use Rattle.number_bytes.proofs.NumberLaws.{numbers_length, numbers_append}
-use Rattle.number_bytes.proofs.FilledLaws.{Filled, filled_first, filled_within, filled_room, filled_part, filled_next, filled_none, filled_length, filled_all}
+use Rattle.number_bytes.proofs.FilledLaws.{Filled, filled_first, filled_within, filled_part, filled_next, filled_none, filled_length, filled_all}
 use Rattle.selection.specs.Selected.{selected}
 use Rattle.selection.proofs.SelectedLaws.{one_selected, selected_step, selected_end}
 
@@ -48,49 +46,39 @@ module _ (test : ℕ → Bool) (n : ℕ) (out₀ : List ℕ) where
   written_within out at i r w = filled_within (bytes_from test n) (bytes_from test n 0) out₀ (room r) out at i w
 
   module _ (out : List ℕ) (at i : ℕ) (h : i < n) (w : Written test n out₀ out at i) where
-    abbrev one : List ℕ
-    one = one_selected test i
-
-    next : bytes_from test n i ≡ numbers_bytes one ++ bytes_from test n (i + 1)
+    next : (b : Bool) → test i ≡ b → bytes_from test n i ≡ numbers_bytes (cond b (i ∷ []) []) ++ bytes_from test n (i + 1)
     unfolding bytes_from
-    next = ap numbers_bytes (selected_step test i n h) ∙ numbers_append one (selected test (i + 1) (n - (i + 1)))
+    next b e =
+        ap numbers_bytes (selected_step test i n h)
+        ∙ numbers_append (one_selected test i) (selected test (i + 1) (n - (i + 1)))
+        ∙ ap (λ (b : Bool). numbers_bytes (cond b (i ∷ []) []) ++ bytes_from test n (i + 1)) e
 
-    -- there is room for the i-th
-    pub written_room : 2 * length whole ≤ length out₀ → at + 2 * length one ≤ length out
-    written_room r =
-        let m = filled_room (bytes_from test n) (bytes_from test n 0) out₀ (room r) out (numbers_bytes one) at i w next in
-        let l = numbers_length one in
-        omega arith
+    -- the i-th does not pass
+    pub written_passed : test i ≡ false → Written test n out₀ out at (i + 1)
+    unfolding numbers_bytes
+    written_passed e = record { done = w.done; placed = w.placed; reached = w.reached; left = ap (λ (l : List ℕ). w.done ++ l) (sym (next false e)) ∙ w.left }
 
-    -- also in the part that is lent for it
-    pub written_part : 2 * length whole ≤ length out₀ → 2 * length one ≤ length (take (length out - at) (drop at out))
-    written_part r =
-        let m = filled_part (bytes_from test n) (bytes_from test n 0) out₀ (room r) out (numbers_bytes one) at i w next in
-        let l = numbers_length one in
-        omega arith
+    -- it passes: there is room for it in the part that is lent for it, and it is written
+    module _ (e : test i ≡ true) (r : 2 * length whole ≤ length out₀) where
+      pub written_part : 2 ≤ length (take (length out - at) (drop at out))
+      written_part =
+          let m = filled_part (bytes_from test n) (bytes_from test n 0) out₀ (room r) out (numbers_bytes (i ∷ [])) at i w (next true e) in
+          let l = numbers_length (i ∷ []) in
+          omega arith
 
-    pub written_next : (Y : List ℕ) (k m : ℕ) → 2 * length whole ≤ length out₀ → m ≡ 2 * length one → k ≡ length out - at → Y ≡ onto (numbers_bytes one) (take k (drop at out))
-        → Written test n out₀ (take at out ++ (Y ++ drop k (drop at out))) (at + m) (i + 1)
-    written_next Y k m r f g y = filled_next (bytes_from test n) (bytes_from test n 0) out₀ (room r) out (numbers_bytes one) at i w next Y k m (f ∙ sym (numbers_length one)) g y
+      pub written_next : (Y : List ℕ) (k m : ℕ) → m ≡ 2 → k ≡ length out - at → Y ≡ onto (numbers_bytes (i ∷ [])) (take k (drop at out))
+          → Written test n out₀ (take at out ++ (Y ++ drop k (drop at out))) (at + m) (i + 1)
+      written_next Y k m f g y = filled_next (bytes_from test n) (bytes_from test n 0) out₀ (room r) out (numbers_bytes (i ∷ [])) at i w (next true e) Y k m (f ∙ sym (numbers_length (i ∷ []))) g y
 
-  -- a loop that has not written all stands at a number below n
-  pub written_below : (out : List ℕ) (at i : ℕ) → at < 2 * length whole → Written test n out₀ out at i → i < n
+  -- nothing is left where all are written, and behind the last number
+  pub none_left : (out : List ℕ) (at i : ℕ) → 2 * length whole ≤ at → Written test n out₀ out at i → bytes_from test n i ≡ []
+  none_left out at i h w = let l = all_length in filled_none (bytes_from test n) (bytes_from test n 0) out₀ out at i (omega arith) w
+
+  pub none_behind : (i : ℕ) → n ≤ i → bytes_from test n i ≡ []
   unfolding bytes_from
-  written_below out at i h w = go (ltb i n) (ltb-true i n) (ltb-false i n)
-    where
-      go : (t : Bool) → (t ≡ true → i < n) → (t ≡ false → n ≤ i) → i < n
-      go true f g = f refl
-      go false f g =
-          let none = ap numbers_bytes (selected_end test i n (g refl)) in
-          let e = filled_length (bytes_from test n) (bytes_from test n 0) out₀ out at i none w in
-          let l = all_length in
-          absurd (omega arith)
+  none_behind i h = ap numbers_bytes (selected_end test i n h)
 
-  -- one that has written all is done
-  module _ (out : List ℕ) (at i : ℕ) (h : 2 * length whole ≤ at) (w : Written test n out₀ out at i) where
-    none : bytes_from test n i ≡ []
-    none = let l = all_length in filled_none (bytes_from test n) (bytes_from test n 0) out₀ out at i (omega arith) w
-
+  module _ (out : List ℕ) (at i : ℕ) (none : bytes_from test n i ≡ []) (w : Written test n out₀ out at i) where
     pub written_length : at ≡ 2 * length whole
     written_length = filled_length (bytes_from test n) (bytes_from test n 0) out₀ out at i none w ∙ all_length
 

@@ -14,9 +14,8 @@ use Rattle.layout.specs.Fields.{whole}
 use Rattle.sheet.specs.Table.{section_of}
 use Rattle.sheet.specs.Order.{kind_at, section_count, sketches_number, expressions_number, section_at, sections_in}
 use Rattle.sheet.specs.Rules.{count_within, count_refusal, records_refusal, section_refusal}
-use Rattle.sheet.specs.Check.{refusal_in, sheet_refusal, check}
+use Rattle.sheet.specs.Check.{Accepted, refusal_in, sheet_refusal, check}
 use Rattle.sheet.specs.declared.Sections.{Sections}
-use Rattle.sheet.specs.declared.Checked.TheVariants.{Accepted}
 use Rattle.sheet.proofs.VerdictLaws.{verdict_accepted}
 
 -- the answer: no refusal, and the sections where the bytes have them

@@ -3,22 +3,21 @@ use Prim.Native.Nat.{ℕ, zero, suc, ◌+◌, ◌≤◌, ◌<◌}
 use mathlib.Core.Path.{◌≡◌, refl, sym, ap, ◌∙◌}
 use mathlib.Core.List.{List}
 use native.Mathlib.Omega.{arith}
-use lib.Dec.{eqb}
+use lib.Dec.{leb, eqb}
+use borrow.Author.Tests.{leb-true}
 use lib.ListN.{length, get_or, set}
-use borrow.Author.Tests.{lt-leb, le-leb}
 use Rattle.le.specs.Fields.{u16_at}
 use Rattle.layout.specs.Places.{sheet_limit}
-use Rattle.rules.specs.Rules.{ask, or_else, first_refusal}
-use Rattle.rules.proofs.RuleLaws.{else_broken, else_kept}
+use Rattle.rules.specs.Rules.{ask, or_else, first_refusal, refusal_number}
+use Rattle.rules.specs.declared.Refusal.{Refusal}
+use Rattle.rules.proofs.RuleLaws.{ask_kept, else_broken, else_kept}
+use Rattle.record_rules.proofs.LoopLaws.{number_not}
 use Rattle.sheet.specs.Order.{kind_at, section_count, sketches_number, expressions_number, record_at, section_at, sections_in}
 use Rattle.sheet.specs.Rules.{section_refusal}
-use Rattle.sheet.specs.Check.{refusal_in, sheet_refusal, verdict, check}
-use Rattle.sheet.specs.Walk.{reached}
+use Rattle.sheet.specs.Check.{Refused, Accepted, refusal_in, sheet_refusal, verdict, check}
+use Rattle.sheet.specs.Walk.{Reached, Refused as Stopped, At, reached}
 use Rattle.sheet.specs.declared.Sections.{Sections}
-use Rattle.sheet.specs.declared.Checked.TheVariants.{Refused, Accepted}
 use Rattle.sheet.specs.declared.order.Kind.{Kind}
-use Rattle.sheet.specs.declared.walk.Reached.{Reached}
-use Rattle.sheet.specs.declared.walk.Reached.TheVariants.{Refused as Stopped, At}
 use Rattle.sheet.proofs.PlaceLaws.{starts_before, section_next}
 use Rattle.sheet.proofs.SectionLaws.{noted}
 
@@ -35,9 +34,9 @@ verdict_accepted (suc n) x y e = let z : ◌≡◌ {A = ℕ} 0 1 = cc in absurd 
 
 -- ---- a section
 
-pub reached_refused : (n m at : ℕ) → n ≡ m → (n ≡ 0 → ⊥) → Stopped n ≡ reached m at
-reached_refused zero m at e h = absurd (h refl)
-reached_refused (suc n) m at e h = ap (λ (k : ℕ). reached k at) e
+pub reached_refused : (refusal : Refusal) (n at : ℕ) → refusal_number refusal ≡ n → Stopped (refusal_number refusal) ≡ reached n at
+reached_refused refusal zero at e = absurd (number_not refusal 0 e refl)
+reached_refused refusal (suc n) at e = ap Stopped e
 
 pub reached_end : (n at end : ℕ) → 0 ≡ n → at ≡ end → At at ≡ reached n end
 reached_end n at end e h = ap At h ∙ ap (λ (k : ℕ). reached k end) e
@@ -59,21 +58,28 @@ section_told s starts at k kind r a b l e h = h ∙ rw (e, a, b, sym (section_ne
 
 -- ---- the sheet
 
-pub sheet_long : (s : List ℕ) → sheet_limit < length s → Refused 1 ≡ check s
-unfolding check sheet_refusal
-sheet_long s h = rw (lt-leb _ _ h) refl
+pub check_refused : (s : List ℕ) (refusal : Refusal) → refusal_number refusal ≡ sheet_refusal s → Refused (refusal_number refusal) ≡ check s
+unfolding check
+check_refused s refusal e = verdict_refused (refusal_number refusal) (sections_in s) (number_not refusal (refusal_number refusal) refl) ∙ ap (λ (n : ℕ). verdict n (sections_in s)) e
 
-sheet_rest : (s : List ℕ) → length s ≤ sheet_limit → or_else (first_refusal (refusal_in s) 0 section_count) (ask (eqb (section_at s section_count) (length s)) 10) ≡ sheet_refusal s
+pub check_accepted : (s : List ℕ) (x : Sections) → 0 ≡ sheet_refusal s → x ≡ sections_in s → Accepted x ≡ check s
+unfolding check
+check_accepted s x e y = ap Accepted y ∙ ap (λ (n : ℕ). verdict n (sections_in s)) e
+
+pub sheet_long : (s : List ℕ) (refusal : Refusal) → refusal_number refusal ≡ ask (leb (length s) sheet_limit) 1 → refusal_number refusal ≡ sheet_refusal s
 unfolding sheet_refusal
-sheet_rest s h = rw (le-leb _ sheet_limit h) refl
+sheet_long s refusal e = e ∙ sym (else_broken (ask (leb (length s) sheet_limit) 1) _ (number_not refusal _ e))
 
-pub sheet_broken : (s : List ℕ) (n : ℕ) → length s ≤ sheet_limit → n ≡ first_refusal (refusal_in s) 0 section_count → (n ≡ 0 → ⊥) → Refused n ≡ check s
-unfolding check
-sheet_broken s n h e b =
-    verdict_refused n (sections_in s) b
-    ∙ ap (λ (k : ℕ). verdict k (sections_in s)) (e ∙ (sym (else_broken (first_refusal (refusal_in s) 0 section_count) (ask (eqb (section_at s section_count) (length s)) 10) (λ z. b (e ∙ z))) ∙ sheet_rest s h))
+module _ (s : List ℕ) (few : 0 ≡ ask (leb (length s) sheet_limit) 1) where
+  pub sheet_short : length s ≤ sheet_limit
+  sheet_short = leb-true (length s) sheet_limit (ask_kept (leb (length s) sheet_limit) 1 (omega arith) (sym few))
 
-pub sheet_end : (s : List ℕ) (at : ℕ) (x : Sections) → length s ≤ sheet_limit → 0 ≡ first_refusal (refusal_in s) 0 section_count → at ≡ section_at s section_count → x ≡ sections_in s → verdict (ask (eqb at (length s)) 10) x ≡ check s
-unfolding check
-sheet_end s at x h e a y =
-    rw (a, y) (ap (λ (k : ℕ). verdict k (sections_in s)) (sym (else_kept (first_refusal (refusal_in s) 0 section_count) (ask (eqb (section_at s section_count) (length s)) 10) (sym e)) ∙ sheet_rest s h))
+  sheet_rest : or_else (first_refusal (refusal_in s) 0 section_count) (ask (eqb (section_at s section_count) (length s)) 10) ≡ sheet_refusal s
+  unfolding sheet_refusal
+  sheet_rest = sym (else_kept (ask (leb (length s) sheet_limit) 1) _ (sym few))
+
+  pub sheet_broken : (refusal : Refusal) → refusal_number refusal ≡ first_refusal (refusal_in s) 0 section_count → refusal_number refusal ≡ sheet_refusal s
+  sheet_broken refusal e = e ∙ (sym (else_broken (first_refusal (refusal_in s) 0 section_count) _ (number_not refusal _ e)) ∙ sheet_rest)
+
+  pub sheet_end : (n at : ℕ) → 0 ≡ first_refusal (refusal_in s) 0 section_count → at ≡ section_at s section_count → n ≡ ask (eqb at (length s)) 10 → n ≡ sheet_refusal s
+  sheet_end n at e a h = h ∙ (ap (λ (end : ℕ). ask (eqb end (length s)) 10) a ∙ (sym (else_kept (first_refusal (refusal_in s) 0 section_count) _ (sym e)) ∙ sheet_rest))

@@ -1,25 +1,20 @@
 -- Worked sheets: the empty case of document 01, a small one with a record in every section, and the sheet that one byte makes of it. Assumes nothing.
-use Rattle.std.specs.Prelude.{◌≡◌, refl, ℕ, false, List, [], ◌∷◌, ◌++◌, pos, replicate, set}
+use Rattle.std.specs.Prelude.{◌≡◌, refl, ℕ, false, List, [], ◌∷◌, ◌++◌, pos, replicate, set, Some, None}
 use Rattle.std.specs.Float.{fin}
 use Rattle.std.specs.Float.Ieee.{of_bits, le, neg}
-use Rattle.float.specs.Option.{none}
 use Rattle.signed.specs.Signed.{signed, unsigned}
 use Rattle.le.specs.Fields.{field_at}
 use Rattle.scalar.specs.declared.Scalar.TheVariants.{Int32}
-use Rattle.scalar.specs.declared.Bound.TheVariants.{Absent, Present}
 use Rattle.estimate.specs.Estimates.{estimate_of}
 use Rattle.estimate.specs.declared.Estimate.{Estimate}
 use Rattle.estimate.specs.declared.EstimateSource.TheVariants.{Catalog}
-use Rattle.records.specs.declared.catalog.RowCount.TheVariants.{Unknown}
+use Rattle.records.specs.Columns.{column_of}
 use Rattle.records.specs.declared.catalog.Key.TheVariants.{Unique}
-use Rattle.records.specs.declared.columns.BaseColumn.TheVariants.{Absent as NoBase, Present as Base}
-use Rattle.records.specs.declared.columns.SketchNumber.TheVariants.{Absent as NoSketch, Present as SketchNo}
 use Rattle.records.specs.declared.expressions.BinaryOp.TheVariants.{Eq}
 use Rattle.records.specs.declared.expressions.NaryOp.TheVariants.{And}
 use Rattle.records.specs.declared.expressions.Expression.TheVariants.{ColumnRef, Binary, Nary}
-use Rattle.sheet.specs.Check.{check}
+use Rattle.sheet.specs.Check.{Refused, Accepted, check}
 use Rattle.sheet.specs.Sheet.{Sheet, sheet_in, conjuncts_in}
-use Rattle.sheet.specs.declared.Checked.TheVariants.{Refused, Accepted}
 
 abbrev zeros : ℕ → List ℕ
 zeros n = replicate n 0
@@ -117,7 +112,7 @@ unfolding check field_at unsigned signed of_bits le neg
 small_accepted = refl
 
 abbrev plain : ℕ → ℕ → Estimate
-plain m e = estimate_of (fin false m (pos e)) none none Catalog
+plain m e = estimate_of (fin false m (pos e)) None None Catalog
 
 abbrev small_sheet : Sheet
 small_sheet = record {
@@ -125,25 +120,25 @@ small_sheet = record {
   right_rows = plain 25 1;
   settings = (sheet_in empty).settings;
   sketches = record { population = 7; items = record { value = Int32 (pos 5); lower = 3; error = 1 } ∷ [] } ∷ [];
-  tables = record { table = 3; rows = Unknown } ∷ [];
-  keys = Unique 3 9 ∷ [];
+  tables = record { table = 3; rows = None } ∷ [];
+  keys = Unique (column_of 3 9) ∷ [];
   left_columns = record {
     column = 1;
-    base = Base 3 9;
-    lower = Absent;
-    upper = Present (Int32 (pos 5));
+    base = Some (column_of 3 9);
+    lower = None;
+    upper = Some (Int32 (pos 5));
     frequency = plain 25 2;
     distinct = plain 5 1;
-    sketch = SketchNo 0;
+    sketch = Some 0;
   } ∷ [];
   right_columns = record {
     column = 2;
-    base = NoBase;
-    lower = Absent;
-    upper = Absent;
+    base = None;
+    lower = None;
+    upper = None;
     frequency = plain 25 1;
     distinct = plain 5 1;
-    sketch = NoSketch;
+    sketch = None;
   } ∷ [];
   left_classes = record { columns = 1 ∷ 4 ∷ []; distinct = plain 5 1 } ∷ [];
   right_classes = [];

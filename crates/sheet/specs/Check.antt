@@ -1,12 +1,21 @@
 -- Whether a list of bytes is a sheet (document 01, "Where a sheet is turned back"). Definitions only.
-use Rattle.std.specs.Prelude.{ℕ, zero, suc, List, leb, eqb, length}
+use Rattle.std.specs.Prelude.{ℕ, zero, suc, List, leb, eqb, length, Result, Ok, Err}
 use Rattle.layout.specs.Places.{sheet_limit}
-use Rattle.rules.specs.Rules.{ask, or_else, first_refusal}
+use Rattle.rules.specs.Rules.{ask, or_else, first_refusal, refusal_number}
+use Rattle.rules.specs.declared.Refusal.{Refusal}
 use Rattle.sheet.specs.Order.{kind_at, section_count, sketches_number, expressions_number, section_at, sections_in}
 use Rattle.sheet.specs.Rules.{section_refusal}
 use Rattle.sheet.specs.declared.Sections.{Sections}
-use Rattle.sheet.specs.declared.Checked.{Checked}
-use Rattle.sheet.specs.declared.Checked.TheVariants.{Refused, Accepted}
+
+-- a refusal's number, or where the sections stand
+pub data Checked : Type 0 where
+  Refused : ℕ → Checked
+  Accepted : Sections → Checked
+
+-- what `check` answers
+abbrev pub checked_of : Result Sections Refusal → Checked
+checked_of (Ok sections) = Accepted sections
+checked_of (Err refusal) = Refused (refusal_number refusal)
 
 -- section k
 unfoldable pub refusal_in : List ℕ → ℕ → ℕ

@@ -10,6 +10,14 @@ use Rattle.sheet.specs.declared.table.Shape.{Shape}
 use Rattle.sheet.specs.declared.table.Shape.TheVariants.{Fixed, Counted}
 use Rattle.sheet.specs.declared.table.Tally.TheVariants.{Nothing, Items, Runs, Owner}
 
+-- records of one size, of which nothing is carried along
+abbrev pub fixed : ℕ → ℕ → ℕ → Section
+fixed least most size = record { least = least; most = most; filled = false; shape = Fixed size; tally = Nothing }
+
+-- records that tell how many items they have
+abbrev pub counted : ℕ → ℕ → ℕ → ℕ → Section
+counted most head count item = record { least = 0; most = most; filled = false; shape = Counted head count item; tally = Nothing }
+
 abbrev pub section_of : Kind → Section
 section_of Rows = record { least = 2; most = 2; filled = false; shape = Fixed estimate_size; tally = Nothing }
 section_of Settings = record { least = 5; most = 5; filled = false; shape = Fixed float_size; tally = Nothing }

@@ -1,15 +1,15 @@
 -- What a walk over a section's records carries along. Definitions only.
-use Rattle.std.specs.Prelude.{ℕ, zero, suc, ◌+◌, ◌≤◌, ◌≡◌, List}
+use Rattle.std.specs.Prelude.{ℕ, zero, suc, ◌+◌, ◌≤◌, ◌≡◌, List, Result, Ok, Err}
 use Rattle.le.specs.Fields.{u16_at}
 use Rattle.layout.specs.Places.{sketch_count_offset}
+use Rattle.rules.specs.Rules.{refusal_number}
+use Rattle.rules.specs.declared.Refusal.{Refusal}
 use Rattle.expression_rules.specs.Operands.{run_length, first_holding, nary_from, RunsFollow}
 use Rattle.sheet.specs.Table.{section_of}
 use Rattle.sheet.specs.Order.{record_at}
 use Rattle.sheet.specs.declared.order.Kind.{Kind}
 use Rattle.sheet.specs.declared.table.Tally.{Tally}
 use Rattle.sheet.specs.declared.table.Tally.TheVariants.{Nothing, Items, Runs, Owner}
-use Rattle.sheet.specs.declared.walk.Reached.{Reached}
-use Rattle.sheet.specs.declared.walk.Reached.TheVariants.{Refused, At}
 
 -- where operands are judged, the expressions have been: their runs follow each other
 abbrev pub RunsKnown : Kind → List ℕ → ℕ → Type 0
@@ -32,6 +32,16 @@ unfoldable pub tally_before : Kind → List ℕ → ℕ → ℕ → ℕ → ℕ
 unfolding next_tally record_at
 tally_before kind s expressions start zero = 0
 tally_before kind s expressions start (suc i) = next_tally (section_of kind).tally s expressions (tally_before kind s expressions start i) i (record_at kind s start i)
+
+-- a refusal's number, or the place that a walk reached
+pub data Reached : Type 0 where
+  Refused : ℕ → Reached
+  At : ℕ → Reached
+
+-- what a walk answers
+abbrev pub reached_of : Result ℕ Refusal → Reached
+reached_of (Ok at) = At at
+reached_of (Err refusal) = Refused (refusal_number refusal)
 
 -- the refusal, or the place where there is none
 abbrev pub reached : ℕ → ℕ → Reached

@@ -2,12 +2,12 @@
 #![tactic(auto)]
 
 ghost use Rattle.std.specs.Prelude.{◌≡◌};
-ghost use Rattle.sheet.specs.Check.{verdict, check};
+ghost use Rattle.sheet.specs.Check.{checked_of, check};
 
 use layout::SHEET_LIMIT;
 use order::{EXPRESSIONS, SECTION_COUNT, SKETCHES, kind_at, sections_of};
-use rules::ask;
-use walk::{Reached, section};
+use rules::{Refusal, ask};
+use walk::{Walk, section};
 
 pub mod order;
 mod table;
@@ -30,49 +30,23 @@ pub struct Sections {
     pub conjuncts: u16,
 }
 
-#[derive(Clone, Copy)]
-pub enum Checked {
-    Refused(u8),
-    Accepted(Sections),
-}
-
-fn verdict(refusal: u8, sections: Sections) -> Checked
-    ensures { result ≡ verdict refusal sections }
+// Where a sheet's sections stand, or the first rule that it breaks.
+pub fn check(s: &[u8]) -> Result<Sections, Refusal>
+    ensures { checked_of result ≡ check s.now }
 {
-    if refusal == 0 {
-        return Checked::Accepted(sections);
-    }
-    Checked::Refused(refusal)
-}
-
-// The number of the first rule that a sheet breaks, or where its sections stand.
-pub fn check(s: &[u8]) -> Checked
-    ensures { result ≡ check s.now }
-{
-    if SHEET_LIMIT < s.len() {
-        return Checked::Refused(1);
-    }
+    ask(s.len() <= SHEET_LIMIT, Refusal::Length)?;
     let mut starts = [0u16; SECTION_COUNT];
     let mut at: usize = 0;
-    let mut k: usize = 0;
-    while k < SECTION_COUNT {
+    for k in 0..SECTION_COUNT {
         starts[k] = at as u16;
-        let reached = section(
-            s,
-            kind_at(k),
-            starts[SKETCHES] as usize,
-            starts[EXPRESSIONS] as usize,
-            at,
-        );
-        match reached {
-            Reached::Refused(n) => {
-                return Checked::Refused(n);
-            }
-            Reached::At(next) => {
-                at = next;
-            }
-        }
-        k += 1;
+        let walk = Walk {
+            kind: kind_at(k),
+            sketches: starts[SKETCHES] as usize,
+            expressions: starts[EXPRESSIONS] as usize,
+            start: at,
+        };
+        at = section(s, walk)?;
     }
-    verdict(ask(at == s.len(), 10), sections_of(starts))
+    ask(at == s.len(), Refusal::Trailing)?;
+    Ok(sections_of(starts))
 }

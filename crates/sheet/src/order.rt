@@ -45,6 +45,7 @@ pub enum Kind {
     Conjuncts,
 }
 
+// By cases and not by TryFrom: two kinds stand twice, and every number gives a kind.
 pub fn kind_at(k: usize) -> Kind
     ensures { result ≡ kind_at k }
 {
@@ -54,10 +55,8 @@ pub fn kind_at(k: usize) -> Kind
         SKETCHES => Kind::Sketches,
         TABLES => Kind::Tables,
         KEYS => Kind::Keys,
-        LEFT_COLUMNS => Kind::Columns,
-        RIGHT_COLUMNS => Kind::Columns,
-        LEFT_CLASSES => Kind::Classes,
-        RIGHT_CLASSES => Kind::Classes,
+        LEFT_COLUMNS | RIGHT_COLUMNS => Kind::Columns,
+        LEFT_CLASSES | RIGHT_CLASSES => Kind::Classes,
         EXPRESSIONS => Kind::Expressions,
         OPERANDS => Kind::Operands,
         _ => Kind::Conjuncts,

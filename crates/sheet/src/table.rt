@@ -1,7 +1,7 @@
 // The table of the sections: for each kind the least and the most of its records, whether runs of expressions
 // fill it, how long the records are, and what is carried along from one to the next.
 ghost use Rattle.std.specs.Prelude.{◌≡◌, ◌<◌, ◌^◌};
-ghost use Rattle.sheet.specs.Table.{section_of, shape_end};
+ghost use Rattle.sheet.specs.Table.{fixed, counted, section_of, shape_end};
 
 use crate::order::Kind;
 use layout::{
@@ -37,88 +37,63 @@ pub struct Section {
     pub tally: Tally,
 }
 
+// A section of records of one size, of which nothing is carried along.
+fn fixed(least: u16, most: u16, size: u16) -> Section
+    ensures { result ≡ fixed least most size }
+{
+    Section {
+        least,
+        most,
+        filled: false,
+        shape: Shape::Fixed(size),
+        tally: Tally::Nothing,
+    }
+}
+
+// A section of records that tell how many items they have.
+fn counted(most: u16, head: u16, count: u16, item: u16) -> Section
+    ensures { result ≡ counted most head count item }
+{
+    Section {
+        shape: Shape::Counted { head, count, item },
+        ..fixed(0, most, 0)
+    }
+}
+
 pub fn section_of(kind: Kind) -> Section
     ensures { result ≡ section_of kind }
 {
     match kind {
-        Kind::Rows => Section {
-            least: 2,
-            most: 2,
-            filled: false,
-            shape: Shape::Fixed(ESTIMATE_SIZE as u16),
-            tally: Tally::Nothing,
-        },
-        Kind::Settings => Section {
-            least: 5,
-            most: 5,
-            filled: false,
-            shape: Shape::Fixed(FLOAT_SIZE as u16),
-            tally: Tally::Nothing,
-        },
+        Kind::Rows => fixed(2, 2, ESTIMATE_SIZE as u16),
+        Kind::Settings => fixed(5, 5, FLOAT_SIZE as u16),
         Kind::Sketches => Section {
-            least: 0,
-            most: 16,
-            filled: false,
-            shape: Shape::Counted {
-                head: SKETCH_HEAD_SIZE as u16,
-                count: SKETCH_COUNT_OFFSET as u16,
-                item: ITEM_SIZE as u16,
-            },
             tally: Tally::Items,
+            ..counted(
+                16,
+                SKETCH_HEAD_SIZE as u16,
+                SKETCH_COUNT_OFFSET as u16,
+                ITEM_SIZE as u16,
+            )
         },
-        Kind::Tables => Section {
-            least: 0,
-            most: 64,
-            filled: false,
-            shape: Shape::Fixed(TABLE_SIZE as u16),
-            tally: Tally::Nothing,
-        },
-        Kind::Keys => Section {
-            least: 0,
-            most: 64,
-            filled: false,
-            shape: Shape::Fixed(KEY_SIZE as u16),
-            tally: Tally::Nothing,
-        },
-        Kind::Columns => Section {
-            least: 0,
-            most: 64,
-            filled: false,
-            shape: Shape::Fixed(COLUMN_SIZE as u16),
-            tally: Tally::Nothing,
-        },
-        Kind::Classes => Section {
-            least: 0,
-            most: 32,
-            filled: false,
-            shape: Shape::Counted {
-                head: CLASS_HEAD_SIZE as u16,
-                count: CLASS_COUNT_OFFSET as u16,
-                item: NUMBER_SIZE as u16,
-            },
-            tally: Tally::Nothing,
-        },
+        Kind::Tables => fixed(0, 64, TABLE_SIZE as u16),
+        Kind::Keys => fixed(0, 64, KEY_SIZE as u16),
+        Kind::Columns => fixed(0, 64, COLUMN_SIZE as u16),
+        Kind::Classes => counted(
+            32,
+            CLASS_HEAD_SIZE as u16,
+            CLASS_COUNT_OFFSET as u16,
+            NUMBER_SIZE as u16,
+        ),
         Kind::Expressions => Section {
-            least: 0,
-            most: 256,
-            filled: false,
-            shape: Shape::Fixed(EXPRESSION_SIZE as u16),
             tally: Tally::Runs,
+            ..fixed(0, 256, EXPRESSION_SIZE as u16)
         },
         Kind::Operands => Section {
-            least: 0,
-            most: OPERAND_LIMIT as u16,
             filled: true,
-            shape: Shape::Fixed(NUMBER_SIZE as u16),
             tally: Tally::Owner,
+            ..fixed(0, OPERAND_LIMIT as u16, NUMBER_SIZE as u16)
         },
-        Kind::Conjuncts => Section {
-            least: 0,
-            most: CONJUNCT_LIMIT as u16,
-            filled: false,
-            shape: Shape::Fixed(NUMBER_SIZE as u16),
-            tally: Tally::Nothing,
-        },
+        Kind::Conjuncts => fixed(0, CONJUNCT_LIMIT as u16, NUMBER_SIZE as u16),
     }
 }
 

@@ -1,13 +1,12 @@
 // The records of a section, one behind the other.
-ghost use Rattle.std.specs.Prelude.{◌≡◌, ◌<◌, ◌≤◌, ◌+◌, ◌^◌, cond, length};
+ghost use Rattle.std.specs.Prelude.{◌≡◌, ◌<◌, ◌≤◌, ◌+◌, ◌^◌, length};
 ghost use Rattle.le.specs.Fields.{u16_at};
-ghost use Rattle.rules.specs.Rules.{first_refusal};
+ghost use Rattle.rules.specs.Rules.{first_refusal, outcome_number};
 ghost use Rattle.layout.specs.Places.{count_size};
-ghost use Rattle.expression_rules.specs.Operands.{fill_refusal};
 ghost use Rattle.sheet.specs.Order.{record_at};
 ghost use Rattle.sheet.specs.Rules.{count_within, count_refusal, record_refusal, records_refusal, section_refusal};
 ghost use Rattle.sheet.specs.Table.{section_of};
-ghost use Rattle.sheet.specs.Walk.{RunsKnown, OwnerWithin, next_tally, tally_before, reached};
+ghost use Rattle.sheet.specs.Walk.{RunsKnown, OwnerWithin, next_tally, tally_before, reached_of, reached};
 
 use crate::order::Kind;
 use crate::table::{Tally, section_of, shape_end};
@@ -22,61 +21,64 @@ use record_rules::classes::class_refusal;
 use record_rules::columns::column_refusal;
 use record_rules::fields::whole;
 use record_rules::rows::{rows_refusal, setting_refusal};
-use rules::{ask, both, or_else};
+use rules::{Refusal, ask};
 use sketch_rules::sketch_refusal;
 
-// A section was refused, or its end was reached.
+// A section: what its records are, and where the counts of the sketches, of the expressions and its own
+// stand.
 #[derive(Clone, Copy)]
-pub enum Reached {
-    Refused(u8),
-    At(usize),
+pub struct Walk {
+    pub kind: Kind,
+    pub sketches: usize,
+    pub expressions: usize,
+    pub start: usize,
 }
 
+// Where record i of a section stands, and the tally before it.
+#[derive(Clone, Copy)]
+pub struct Place {
+    pub i: usize,
+    pub at: usize,
+    pub tally: usize,
+}
+
+#[tactic(auto, unfolding(crate::specs::Rules::count_within))]
 fn count_within(kind: Kind, n: u16) -> bool
     ensures { result ≡ count_within kind n }
 {
     let section = section_of(kind);
-    both(section.least <= n, n <= section.most)
+    section.least <= n && n <= section.most
 }
 
 // Where runs fill the section, they hold as many as it has.
-fn filled_refusal(s: &[u8], filled: bool, expressions: usize, n: u16) -> u8
-    requires { expressions < 2 ^ 40 }
-    ensures { result ≡ cond filled (fill_refusal s.now expressions n) 0 }
+#[tactic(auto, unfolding(crate::specs::Rules::count_refusal))]
+fn count_refusal(s: &[u8], walk: Walk) -> Result<(), Refusal>
+    requires { walk.expressions < 2 ^ 40 }
+    ensures { outcome_number result ≡ count_refusal walk.kind s.now walk.expressions walk.start }
 {
-    if filled {
-        return fill_refusal(s, expressions, n);
+    whole(COUNT_SIZE, s, walk.start)?;
+    let n = u16_at(s, walk.start);
+    ask(count_within(walk.kind, n), Refusal::Count)?;
+    if section_of(walk.kind).filled {
+        fill_refusal(s, walk.expressions, n)
+    } else {
+        Ok(())
     }
-    0
 }
 
-fn count_refusal(s: &[u8], kind: Kind, expressions: usize, start: usize) -> u8
-    requires { expressions < 2 ^ 40 }
-    ensures { result ≡ count_refusal kind s.now expressions start }
+// The record at a place; the tally behind it is next.
+#[tactic(auto, unfolding(crate::specs::Rules::record_refusal))]
+fn record_refusal(s: &[u8], walk: Walk, place: Place, next: usize) -> Result<(), Refusal>
+    requires { ((((place.at < 2 ^ 38) × (walk.start < 2 ^ 38)) × ((walk.expressions < 2 ^ 40) × (place.i < 2 ^ 16))) × RunsKnown walk.kind s.now walk.expressions) × (((place.tally < 2 ^ 40) × (place.tally ≡ tally_before walk.kind s.now walk.expressions walk.start place.i)) × (next ≡ next_tally (section_of walk.kind).tally s.now walk.expressions place.tally place.i place.at)) }
+    ensures { outcome_number result ≡ record_refusal walk.kind s.now walk.sketches walk.expressions walk.start place.i place.at }
 {
-    let there = whole(COUNT_SIZE, s, start);
-    let n = u16_at(s, start);
-    let within = ask(count_within(kind, n), 3);
-    let section = section_of(kind);
-    let fill = filled_refusal(s, section.filled, expressions, n);
-    or_else(there, or_else(within, fill))
-}
-
-// Record i of a section, which stands at a place; the tally before it, and the next one behind it.
-fn record_refusal(
-    s: &[u8],
-    kind: Kind,
-    sketches: usize,
-    expressions: usize,
-    start: usize,
-    tally: usize,
-    next: usize,
-    i: usize,
-    at: usize,
-) -> u8
-    requires { ((((at < 2 ^ 38) × (start < 2 ^ 38)) × ((expressions < 2 ^ 40) × (i < 2 ^ 16))) × RunsKnown kind s.now expressions) × (((tally < 2 ^ 40) × (tally ≡ tally_before kind s.now expressions start i)) × (next ≡ next_tally (section_of kind).tally s.now expressions tally i at)) }
-    ensures { result ≡ record_refusal kind s.now sketches expressions start i at }
-{
+    let Walk {
+        kind,
+        sketches,
+        expressions,
+        start,
+    } = walk;
+    let Place { i, at, tally } = place;
     match kind {
         Kind::Rows => rows_refusal(s, at),
         Kind::Settings => setting_refusal(s, i, at),
@@ -91,64 +93,42 @@ fn record_refusal(
     }
 }
 
-// The tally behind record i, which stands at a place; before it the tally is n.
-fn next_tally(s: &[u8], tally: Tally, expressions: usize, n: usize, i: usize, at: usize) -> usize
-    requires { ((at < 2 ^ 38) × (expressions < 2 ^ 40)) × ((n < 2 ^ 40) × OwnerWithin tally s.now expressions n) }
-    ensures { (result ≡ next_tally tally s.now expressions n i at) × (result < n + 2 ^ 16) }
+// The tally behind the record at a place.
+#[tactic(auto, unfolding(crate::specs::Walk::next_tally))]
+fn next_tally(s: &[u8], carried: Tally, expressions: usize, place: Place) -> usize
+    requires { ((place.at < 2 ^ 38) × (expressions < 2 ^ 40)) × ((place.tally < 2 ^ 40) × OwnerWithin carried s.now expressions place.tally) }
+    ensures { (result ≡ next_tally carried s.now expressions place.tally place.i place.at) × (result < place.tally + 2 ^ 16) }
 {
-    match tally {
+    let Place { i, at, tally } = place;
+    match carried {
         Tally::Nothing => 0,
-        Tally::Items => n + (u16_at(s, at + SKETCH_COUNT_OFFSET) as usize),
-        Tally::Runs => n + run_length(s, at),
-        Tally::Owner => nary_from(s, expressions, i, n),
+        Tally::Items => tally + (u16_at(s, at + SKETCH_COUNT_OFFSET) as usize),
+        Tally::Runs => tally + run_length(s, at),
+        Tally::Owner => nary_from(s, expressions, i, tally),
     }
 }
 
-fn walk_records(
-    s: &[u8],
-    kind: Kind,
-    sketches: usize,
-    expressions: usize,
-    start: usize,
-    n: usize,
-) -> Reached
-    requires { (((length s.now < 2 ^ 16) × (start + count_size ≤ length s.now)) × RunsKnown kind s.now expressions) × ((expressions < 2 ^ 16) × (n < 2 ^ 16)) }
-    ensures { result ≡ reached (first_refusal (records_refusal kind s.now sketches expressions start) 0 n) (record_at kind s.now start n) }
+fn walk_records(s: &[u8], walk: Walk, n: usize) -> Result<usize, Refusal>
+    requires { (((length s.now < 2 ^ 16) × (walk.start + count_size ≤ length s.now)) × RunsKnown walk.kind s.now walk.expressions) × ((walk.expressions < 2 ^ 16) × (n < 2 ^ 16)) }
+    ensures { reached_of result ≡ reached (first_refusal (records_refusal walk.kind s.now walk.sketches walk.expressions walk.start) 0 n) (record_at walk.kind s.now walk.start n) }
 {
-    let section = section_of(kind);
-    let shape = section.shape;
-    let carried = section.tally;
-    let mut at = start + COUNT_SIZE;
+    let section = section_of(walk.kind);
+    let mut at = walk.start + COUNT_SIZE;
     let mut tally: usize = 0;
-    let mut i: usize = 0;
-    while i < n {
-        let next = next_tally(s, carried, expressions, tally, i, at);
-        let refusal = record_refusal(s, kind, sketches, expressions, start, tally, next, i, at);
-        if refusal != 0 {
-            return Reached::Refused(refusal);
-        }
-        tally = next;
-        at = shape_end(s, shape, at);
-        i += 1;
+    for i in 0..n {
+        let place = Place { i, at, tally };
+        tally = next_tally(s, section.tally, walk.expressions, place);
+        record_refusal(s, walk, place, tally)?;
+        at = shape_end(s, section.shape, at);
     }
-    Reached::At(at)
+    Ok(at)
 }
 
-// The section whose count stands at a place.
-pub fn section(s: &[u8], kind: Kind, sketches: usize, expressions: usize, start: usize) -> Reached
-    requires { (((length s.now < 2 ^ 16) × (start ≤ length s.now)) × RunsKnown kind s.now expressions) × (expressions < 2 ^ 16) }
-    ensures { result ≡ reached (section_refusal kind s.now sketches expressions start) (record_at kind s.now start (u16_at s.now start)) }
+// Where the section behind stands.
+pub fn section(s: &[u8], walk: Walk) -> Result<usize, Refusal>
+    requires { (((length s.now < 2 ^ 16) × (walk.start ≤ length s.now)) × RunsKnown walk.kind s.now walk.expressions) × (walk.expressions < 2 ^ 16) }
+    ensures { reached_of result ≡ reached (section_refusal walk.kind s.now walk.sketches walk.expressions walk.start) (record_at walk.kind s.now walk.start (u16_at s.now walk.start)) }
 {
-    let refusal = count_refusal(s, kind, expressions, start);
-    if refusal != 0 {
-        return Reached::Refused(refusal);
-    }
-    walk_records(
-        s,
-        kind,
-        sketches,
-        expressions,
-        start,
-        u16_at(s, start) as usize,
-    )
+    count_refusal(s, walk)?;
+    walk_records(s, walk, u16_at(s, walk.start) as usize)
 }

@@ -1,7 +1,12 @@
 -- What a command of the list claims: of a sheet alone, or of an answer of `estimates`. Definitions only.
-use Rattle.std.specs.Prelude.{ℕ, ◌+◌, Bool, cond, ◌&&◌, List, eqb, leb, length, take}
-use Rattle.le.specs.Fields.{byte_at, u16_at, u32_at}
-use Rattle.sheet_claims.specs.Commands.{kind_offset, expression_offset, length_offset, place_offset, size_offset}
+use Rattle.std.specs.Prelude.{ℕ, ◌+◌, Bool, cond, ◌&&◌, List, Option, Some, None, leb, length, take}
+use Rattle.le.specs.Fields.{u16_at, u32_at}
+use Rattle.sheet_claims.specs.Kinds.{kind_of}
+use Rattle.sheet_claims.specs.declared.commands.Kind.{Kind}
+use Rattle.sheet_claims.specs.declared.commands.Kind.TheVariants as kind
+use Rattle.sheet_claims.specs.declared.Line.{Line}
+use Rattle.sheet_claims.specs.declared.Line.TheVariants.{Unknown, Refused, Accepted, Prefixes, Stores, Joins, Predicates, Splits}
+use Rattle.sheet_claims.specs.Commands.{expression_offset, length_offset, place_offset, size_offset}
 use Rattle.sheet_claims.specs.Claims.{is_accepted, unknown, one_case, judge_store, judge_refused, judge_prefixes}
 use Rattle.sheet_claims.specs.declared.Verdict.{Verdict}
 use Rattle.sheet_cases.specs.Entries.{is_predicate, is_split, is_join}
@@ -10,28 +15,34 @@ use Rattle.sheet_cases.specs.Entries.{is_predicate, is_split, is_join}
 unfoldable pub answer_fits : List ℕ → List ℕ → List ℕ → Bool
 answer_fits s a c = leb (u32_at c length_offset) (length s) && leb (u32_at c place_offset + u32_at c size_offset) (length a)
 
--- line 11 counts accepted sheets, whose places are the answer, 14 joins, 15 predicates, 16 splits
-abbrev pub answer_holds : ℕ → List ℕ → ℕ → List ℕ → ℕ → ℕ → Bool
-answer_holds line s e a at size =
-    cond (eqb line 11) (is_accepted s a at size)
-    (cond (eqb line 15) (is_predicate s e a at size)
-    (cond (eqb line 16) (is_split s e a at size) (is_join s a at size)))
+-- of an accepted sheet, whose places are the answer, of a predicate and of a split; any other is of a join
+abbrev pub answer_holds : Line → List ℕ → ℕ → List ℕ → ℕ → ℕ → Bool
+answer_holds Accepted s e a at size = is_accepted s a at size
+answer_holds Predicates s e a at size = is_predicate s e a at size
+answer_holds Splits s e a at size = is_split s e a at size
+answer_holds Unknown s e a at size = is_join s a at size
+answer_holds (Refused n) s e a at size = is_join s a at size
+answer_holds Prefixes s e a at size = is_join s a at size
+answer_holds Stores s e a at size = is_join s a at size
+answer_holds Joins s e a at size = is_join s a at size
 
-unfoldable pub judge_answer : ℕ → List ℕ → List ℕ → List ℕ → Verdict
+unfoldable pub judge_answer : Line → List ℕ → List ℕ → List ℕ → Verdict
 judge_answer line s a c =
     cond (answer_fits s a c)
     (one_case line (answer_holds line (take (u32_at c length_offset) s) (u16_at c expression_offset) a (u32_at c place_offset) (u32_at c size_offset)))
     unknown
 
+abbrev pub judge_kind : Option Kind → List ℕ → List ℕ → List ℕ → Verdict
+judge_kind (Some kind.Store) s a c = judge_store s c
+judge_kind (Some kind.Refused) s a c = judge_refused s c
+judge_kind (Some kind.Accepted) s a c = judge_answer Accepted s a c
+judge_kind (Some kind.Prefixes) s a c = judge_prefixes s c
+judge_kind (Some kind.StoreAnswer) s a c = judge_store a c
+judge_kind (Some kind.Join) s a c = judge_answer Joins s a c
+judge_kind (Some kind.Predicate) s a c = judge_answer Predicates s a c
+judge_kind (Some kind.Split) s a c = judge_answer Splits s a c
+judge_kind None s a c = unknown
+
 -- by the kind, where s is the sheet's buffer and a the answer's
 unfoldable pub judge : List ℕ → List ℕ → List ℕ → Verdict
-judge s a c =
-    let kind = byte_at c kind_offset in
-    cond (eqb kind 1) (judge_store s c)
-    (cond (eqb kind 2) (judge_refused s c)
-    (cond (eqb kind 3) (judge_answer 11 s a c)
-    (cond (eqb kind 4) (judge_prefixes s c)
-    (cond (eqb kind 5) (judge_store a c)
-    (cond (eqb kind 6) (judge_answer 14 s a c)
-    (cond (eqb kind 7) (judge_answer 15 s a c)
-    (cond (eqb kind 8) (judge_answer 16 s a c) unknown)))))))
+judge s a c = judge_kind (kind_of c) s a c

@@ -2,12 +2,10 @@
 use Rattle.std.specs.Prelude.{ℕ, zero, suc, ◌+◌, Bool, true, false, ◌&&◌, List, eqb, replicate}
 use Rattle.le.specs.Fields.{byte_at}
 use Rattle.layout.specs.Places.{longest_join, longest_split, longest_predicate}
-use Rattle.answers.specs.Answers.{Result, answered, leaves}
+use Rattle.answers.specs.Answers.{Answer, Refused, Written, Result, answered, leaves}
 use Rattle.expression_answer.specs.Predicate.{predicate_result}
 use Rattle.expression_answer.specs.Split.{split_result}
 use Rattle.join_answer.specs.Join.{join_result}
-use Rattle.answers.specs.declared.Answer.{Answer}
-use Rattle.answers.specs.declared.Answer.TheVariants.{Refused, Written}
 
 -- the first n bytes of one list are those of the other from a place on
 unfoldable pub same_bytes : List ℕ → List ℕ → ℕ → ℕ → Bool

@@ -3,13 +3,12 @@ ghost use Rattle.std.specs.Prelude.{◌≡◌, ◌+◌, ◌<◌, ◌^◌};
 ghost use Rattle.sheet_cases.specs.Claims.{answer_fits, answer_holds, judge_answer, judge};
 
 use crate::entries::{is_join, is_predicate, is_split};
-use le::reads::{byte_at, u16_at, u32_at};
-use rules::both;
+use le::reads::{u16_at, u32_at};
 use sheet_claims::commands::{
-    EXPRESSION_OFFSET, KIND_OFFSET, LENGTH_OFFSET, PLACE_OFFSET, SIZE_OFFSET,
+    EXPRESSION_OFFSET, Kind, LENGTH_OFFSET, PLACE_OFFSET, SIZE_OFFSET, kind_of,
 };
 use sheet_claims::{
-    Verdict, is_accepted, judge_prefixes, judge_refused, judge_store, one_case, unknown,
+    Line, Verdict, is_accepted, judge_prefixes, judge_refused, judge_store, one_case, unknown,
 };
 
 // Whether a command's sheet, and what is to come out, lie within their buffers.
@@ -19,23 +18,23 @@ fn answer_fits(s: &[u8], a: &[u8], c: &[u8]) -> bool
     let n = u32_at(c, LENGTH_OFFSET) as usize;
     let at = u32_at(c, PLACE_OFFSET) as usize;
     let size = u32_at(c, SIZE_OFFSET) as usize;
-    both(n <= s.len(), at + size <= a.len())
+    n <= s.len() && at + size <= a.len()
 }
 
 // Whether that comes out. Joins and accepted sheets name no expression.
-fn answer_holds(line: u8, s: &[u8], e: u16, a: &[u8], at: usize, size: usize) -> bool
+fn answer_holds(line: Line, s: &[u8], e: u16, a: &[u8], at: usize, size: usize) -> bool
     requires { at + size < 2 ^ 40 }
     ensures { result ≡ answer_holds line s.now e a.now at size }
 {
     match line {
-        11 => is_accepted(s, a, at, size),
-        15 => is_predicate(s, e, a, at, size),
-        16 => is_split(s, e, a, at, size),
+        Line::Accepted => is_accepted(s, a, at, size),
+        Line::Predicates => is_predicate(s, e, a, at, size),
+        Line::Splits => is_split(s, e, a, at, size),
         _ => is_join(s, a, at, size),
     }
 }
 
-fn judge_answer(line: u8, s: &[u8], a: &[u8], c: &[u8]) -> Verdict
+fn judge_answer(line: Line, s: &[u8], a: &[u8], c: &[u8]) -> Verdict
     ensures { result ≡ judge_answer line s.now a.now c.now }
 {
     if answer_fits(s, a, c) {
@@ -55,16 +54,17 @@ fn judge_answer(line: u8, s: &[u8], a: &[u8], c: &[u8]) -> Verdict
 pub fn judge(s: &[u8], a: &[u8], c: &[u8]) -> Verdict
     ensures { result ≡ judge s.now a.now c.now }
 {
-    let kind = byte_at(c, KIND_OFFSET);
+    let Some(kind) = kind_of(c) else {
+        return unknown();
+    };
     match kind {
-        1 => judge_store(s, c),
-        2 => judge_refused(s, c),
-        3 => judge_answer(11, s, a, c),
-        4 => judge_prefixes(s, c),
-        5 => judge_store(a, c),
-        6 => judge_answer(14, s, a, c),
-        7 => judge_answer(15, s, a, c),
-        8 => judge_answer(16, s, a, c),
-        _ => unknown(),
+        Kind::Store => judge_store(s, c),
+        Kind::Refused => judge_refused(s, c),
+        Kind::Accepted => judge_answer(Line::Accepted, s, a, c),
+        Kind::Prefixes => judge_prefixes(s, c),
+        Kind::StoreAnswer => judge_store(a, c),
+        Kind::Join => judge_answer(Line::Joins, s, a, c),
+        Kind::Predicate => judge_answer(Line::Predicates, s, a, c),
+        Kind::Split => judge_answer(Line::Splits, s, a, c),
     }
 }

@@ -1,6 +1,7 @@
 // Whether an entry gives the answer that the list has for it.
 ghost use Rattle.std.specs.Prelude.{◌≡◌, ◌+◌, ◌<◌, ◌^◌};
 ghost use Rattle.sheet_cases.specs.Entries.{same_bytes, is_answer, is_predicate, is_split, is_join};
+ghost use Rattle.answers.specs.Answers.{answer_of};
 
 use answers::Answer;
 use layout::{LONGEST_JOIN, LONGEST_PREDICATE, LONGEST_SPLIT};
@@ -10,9 +11,8 @@ fn same_bytes(out: &[u8], a: &[u8], at: usize, n: usize) -> bool
     requires { at + n < 2 ^ 40 }
     ensures { result ≡ same_bytes out.now a.now at n }
 {
-    let mut i = n;
-    while i > 0 {
-        i -= 1;
+    // byte by byte, since past an end a byte is 0
+    for i in (0..n).rev() {
         if byte_at(out, i) != byte_at(a, at + i) {
             return false;
         }
@@ -23,14 +23,13 @@ fn same_bytes(out: &[u8], a: &[u8], at: usize, n: usize) -> bool
 // The call answered this and left this in the output; the list has `size` bytes from `at` on.
 fn is_answer(answer: Answer, out: &[u8], a: &[u8], at: usize, size: usize) -> bool
     requires { at + size < 2 ^ 40 }
-    ensures { result ≡ is_answer answer out.now a.now at size }
+    ensures { result ≡ is_answer (answer_of answer) out.now a.now at size }
 {
-    match answer {
-        Answer::Refused(_) => false,
-        Answer::Written(n) => rules::both(n == size, same_bytes(out, a, at, size)),
-    }
+    answer == Ok(size) && same_bytes(out, a, at, size)
 }
 
+// These three call entries of their own, each into an output of its own length: one function for them
+// would be longer.
 pub fn is_predicate(s: &[u8], e: u16, a: &[u8], at: usize, size: usize) -> bool
     requires { at + size < 2 ^ 40 }
     ensures { result ≡ is_predicate s.now e a.now at size }

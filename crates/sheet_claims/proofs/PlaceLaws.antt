@@ -1,7 +1,8 @@
 -- Comparing goes on: the places from i on are the list's exactly if all are. Assumes nothing.
 use Prim.Native.Nat.{ℕ, suc, ◌+◌, ◌*◌, ◌≤◌, ◌<◌}
-use mathlib.Core.Path.{◌≡◌, refl}
-use mathlib.Core.Bool.{Bool, true, false}
+use mathlib.Core.Path.{◌≡◌, refl, sym, ap, ◌∙◌}
+use mathlib.Core.Bool.{Bool, true, false, ◌&&◌}
+use lib.Dec.{eqb}
 use mathlib.Core.List.{List}
 use native.Mathlib.Omega.{arith}
 use borrow.Author.Tests.{eq-eqb, ne_eqb}
@@ -9,7 +10,10 @@ use lib.ListN.{length, get_or, drop, drop_of_length-le}
 use lib.Seq.{drop-cons}
 use Rattle.le.specs.Fields.{u16_at}
 use Rattle.layout.specs.Places.{number_size}
-use Rattle.sheet_claims.specs.Claims.{same_places}
+use Rattle.sheet.specs.Order.{section_count}
+use Rattle.sheet.specs.Check.{Checked, Accepted, check}
+use Rattle.sheet.specs.declared.Sections.{Sections}
+use Rattle.sheet_claims.specs.Claims.{places_of, same_places, accepted_as, is_accepted}
 
 one_more : (i : ℕ) → i + 1 ≡ suc i
 one_more i = omega arith
@@ -37,3 +41,9 @@ places_first ps a at = rw (at_first at) refl
   where
     at_first : (n : ℕ) → n + number_size * 0 ≡ n
     at_first n = omega arith
+
+-- ---- whether a sheet is accepted with these places
+
+pub accepted_as_places : (s a ps : List ℕ) (at size : ℕ) (c : Checked) (q : Sections) → c ≡ check s → c ≡ Accepted q → ps ≡ places_of q → (eqb size (number_size * section_count) && same_places ps a at) ≡ is_accepted s a at size
+unfolding is_accepted places_of
+accepted_as_places s a ps at size c q e f p = (λ i. eqb size (number_size * section_count) && same_places (p i) a at) ∙ ap (λ (k : Checked). accepted_as k a at size) (sym f ∙ e)

@@ -1,13 +1,23 @@
 -- Prefixes: counting them goes on, as those counted and those that `differing_below` counts below are all; and one that
 -- is there has its length. Assumes nothing.
 use Prim.Native.Nat.{ℕ, suc, ◌+◌, ◌-◌, ◌≤◌, ◌<◌}
-use mathlib.Core.Path.{◌≡◌}
-use mathlib.Core.Bool.{not}
+use mathlib.Core.Path.{◌≡◌, refl}
+use mathlib.Core.Bool.{Bool, true, false, not}
 use mathlib.Core.List.{List}
 use native.Mathlib.Omega.{arith}
 use lib.ListN.{length, take, length-take}
+use Rattle.std.specs.Int.{from_bool}
 use Rattle.float.specs.Integers.{bit}
 use Rattle.sheet_claims.specs.Claims.{is_refused, differing_below}
+
+-- a truth value as a number
+pub bit_is : (b : Bool) → from_bool b ≡ bit b
+bit_is true = refl
+bit_is false = refl
+
+pub bit_most : (b : Bool) → bit b ≤ 1
+bit_most true = omega arith
+bit_most false = omega arith
 
 pub one_less : (i : ℕ) → 0 < i → i ≡ suc (i - 1)
 one_less i h = omega arith

@@ -1,4 +1,5 @@
 pub mod Commands
+pub mod Kinds
 pub mod Stores
 pub mod Claims
 pub mod Tallies

@@ -1,4 +1,52 @@
-// Where the fields of a command stand, by the names of specs/Commands.
+// Where the fields of a command stand, by the names of specs/Commands, and what kinds of commands there
+// are.
+ghost use Rattle.std.specs.Prelude.{◌≡◌};
+ghost use Rattle.sheet_claims.specs.Kinds.{kind_number, kind_of};
+
+use le::reads::byte_at;
+
+#[derive(Clone, Copy)]
+pub enum Kind {
+    Store,
+    Refused,
+    Accepted,
+    Prefixes,
+    StoreAnswer,
+    Join,
+    Predicate,
+    Split,
+}
+
+pub fn kind_number(kind: Kind) -> u8
+    ensures { result ≡ kind_number kind }
+{
+    match kind {
+        Kind::Store => 1,
+        Kind::Refused => 2,
+        Kind::Accepted => 3,
+        Kind::Prefixes => 4,
+        Kind::StoreAnswer => 5,
+        Kind::Join => 6,
+        Kind::Predicate => 7,
+        Kind::Split => 8,
+    }
+}
+
+pub fn kind_of(c: &[u8]) -> Option<Kind>
+    ensures { result ≡ kind_of c.now }
+{
+    match byte_at(c, KIND_OFFSET) {
+        1 => Some(Kind::Store),
+        2 => Some(Kind::Refused),
+        3 => Some(Kind::Accepted),
+        4 => Some(Kind::Prefixes),
+        5 => Some(Kind::StoreAnswer),
+        6 => Some(Kind::Join),
+        7 => Some(Kind::Predicate),
+        8 => Some(Kind::Split),
+        _ => None,
+    }
+}
 
 pub const COMMAND_SIZE: usize = 32;
 

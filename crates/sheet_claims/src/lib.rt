@@ -2,44 +2,48 @@
 #![tactic(auto)]
 
 ghost use Rattle.std.specs.Prelude.{◌≡◌, ◌+◌, ◌≤◌, ◌<◌, ◌^◌, length};
-ghost use Rattle.float.specs.Integers.{bit};
 ghost use Rattle.sheet_claims.specs.Claims.{is_refused, places_of, same_places, is_accepted, differing_below, unknown, one_case, judge_store, judge_refused, judge_prefixes};
 
 use commands::{LENGTH_OFFSET, NUMBER_OFFSET};
 use layout::NUMBER_SIZE;
 use le::reads::{byte_at, u16_at, u32_at};
-use rules::both;
+use sheet::Sections;
 use sheet::order::SECTION_COUNT;
-use sheet::{Checked, Sections};
 use stores::store_fits;
 
 pub mod commands;
 pub mod stores;
 pub mod tallies;
 
-// The line of the report that counts a command, its cases, and how many of them differ. The lines:
-// 0 unknown commands, 1 to 10 refused sheets by number, 11 accepted sheets, 12 prefixes, 13 stores,
-// 14 joins, 15 predicates, 16 splits.
+// The line of the report that counts a command: unknown commands, sheets that are refused with a
+// number, accepted ones, and the other kinds of cases.
+#[derive(Clone, Copy)]
+pub enum Line {
+    Unknown,
+    Refused(u8),
+    Accepted,
+    Prefixes,
+    Stores,
+    Joins,
+    Predicates,
+    Splits,
+}
+
+// A command's line, its cases, and how many of them differ.
 #[derive(Clone, Copy)]
 pub struct Verdict {
-    pub line: u8,
+    pub line: Line,
     pub cases: u64,
     pub differ: u64,
 }
 
-fn one_if(b: bool) -> u64
-    ensures { (result ≡ bit b) × (result ≤ 1) }
-{
-    if b { 1 } else { 0 }
-}
-
+#[tactic(auto, unfolding(crate::specs::Claims::is_refused))]
 fn is_refused(s: &[u8], number: u8) -> bool
     ensures { result ≡ is_refused s.now number }
 {
-    let answer = sheet::check(s);
-    match answer {
-        Checked::Refused(n) => n == number,
-        Checked::Accepted(_) => false,
+    match sheet::check(s) {
+        Ok(_) => false,
+        Err(refusal) => refusal.number() == number,
     }
 }
 
@@ -67,28 +71,23 @@ fn same_places(places: [u16; SECTION_COUNT], a: &[u8], at: usize) -> bool
     requires { at < 2 ^ 40 }
     ensures { result ≡ same_places places a.now at }
 {
-    let mut i = 0usize;
-    while i < SECTION_COUNT {
+    for i in 0..SECTION_COUNT {
         if places[i] != u16_at(a, at + NUMBER_SIZE * i) {
             return false;
         }
-        i += 1;
     }
     true
 }
 
 // Whether the sheet is accepted, with its sections where the list's `size` bytes from `at` on have them.
+#[tactic(auto, unfolding(crate::specs::Claims::is_accepted))]
 pub fn is_accepted(s: &[u8], a: &[u8], at: usize, size: usize) -> bool
     requires { at + size < 2 ^ 40 }
     ensures { result ≡ is_accepted s.now a.now at size }
 {
-    let answer = sheet::check(s);
-    match answer {
-        Checked::Refused(_) => false,
-        Checked::Accepted(q) => both(
-            size == NUMBER_SIZE * SECTION_COUNT,
-            same_places(places_of(q), a, at),
-        ),
+    match sheet::check(s) {
+        Ok(q) => size == NUMBER_SIZE * SECTION_COUNT && same_places(places_of(q), a, at),
+        Err(_) => false,
     }
 }
 
@@ -98,10 +97,8 @@ fn differing_below(s: &[u8], number: u8, n: usize) -> u64
     ensures { result ≡ differing_below s.now number n }
 {
     let mut differ = 0u64;
-    let mut i = n;
-    while i > 0 {
-        i -= 1;
-        differ += one_if(!is_refused(&s[..i], number));
+    for i in (0..n).rev() {
+        differ += u64::from(!is_refused(&s[..i], number));
     }
     differ
 }
@@ -110,19 +107,19 @@ pub fn unknown() -> Verdict
     ensures { result ≡ unknown }
 {
     Verdict {
-        line: 0,
+        line: Line::Unknown,
         cases: 1,
         differ: 1,
     }
 }
 
-pub fn one_case(line: u8, agrees: bool) -> Verdict
+pub fn one_case(line: Line, agrees: bool) -> Verdict
     ensures { result ≡ one_case line agrees }
 {
     Verdict {
         line,
         cases: 1,
-        differ: one_if(!agrees),
+        differ: u64::from(!agrees),
     }
 }
 
@@ -130,7 +127,7 @@ pub fn judge_store(s: &[u8], c: &[u8]) -> Verdict
     ensures { result ≡ judge_store s.now c.now }
 {
     if store_fits(s, c) {
-        one_case(13, true)
+        one_case(Line::Stores, true)
     } else {
         unknown()
     }
@@ -141,13 +138,10 @@ pub fn judge_refused(s: &[u8], c: &[u8]) -> Verdict
 {
     let n = u32_at(c, LENGTH_OFFSET) as usize;
     let number = byte_at(c, NUMBER_OFFSET);
-    if s.len() < n {
+    if s.len() < n || number < 1 || 10 < number {
         return unknown();
     }
-    if !both(1 <= number, number <= 10) {
-        return unknown();
-    }
-    one_case(number, is_refused(&s[..n], number))
+    one_case(Line::Refused(number), is_refused(&s[..n], number))
 }
 
 pub fn judge_prefixes(s: &[u8], c: &[u8]) -> Verdict
@@ -159,7 +153,7 @@ pub fn judge_prefixes(s: &[u8], c: &[u8]) -> Verdict
     }
     let differ = differing_below(s, byte_at(c, NUMBER_OFFSET), n as usize);
     Verdict {
-        line: 12,
+        line: Line::Prefixes,
         cases: n as u64,
         differ,
     }

@@ -3,7 +3,8 @@ ghost use Rattle.std.specs.Prelude.{◌≡◌, ◌+◌, ◌≤◌, ◌<◌, ◌^
 ghost use Rattle.sheet_claims.specs.Stores.{copied, store_fits, stored};
 
 use crate::commands::{
-    KIND_OFFSET, STORE_BYTES_OFFSET, STORE_COUNT_OFFSET, STORE_LIMIT, STORE_PLACE_OFFSET,
+    KIND_OFFSET, Kind, STORE_BYTES_OFFSET, STORE_COUNT_OFFSET, STORE_LIMIT, STORE_PLACE_OFFSET,
+    kind_number,
 };
 use le::reads::{byte_at, u16_at, u32_at};
 
@@ -12,10 +13,9 @@ fn copy(s: &mut [u8], at: usize, c: &[u8], from: usize, n: usize)
     requires n_bound { from + n < 2 ^ 32 }
     ensures { s.new ≡ copied s.old at c.now from n }
 {
-    let mut i = 0usize;
-    while i < n {
+    // byte by byte, since past a command's end its bytes are 0
+    for i in 0..n {
         s[at + i] = byte_at(c, from + i);
-        i += 1;
     }
 }
 
@@ -25,18 +25,16 @@ pub fn store_fits(s: &[u8], c: &[u8]) -> bool
 {
     let n = u16_at(c, STORE_COUNT_OFFSET) as usize;
     let at = u32_at(c, STORE_PLACE_OFFSET) as usize;
-    rules::both(n <= STORE_LIMIT, at + n <= s.len())
+    n <= STORE_LIMIT && at + n <= s.len()
 }
 
 // A command of another kind, and one that does not fit, stores nothing.
-pub fn store(kind: u8, s: &mut [u8], c: &[u8])
+pub fn store(kind: Kind, s: &mut [u8], c: &[u8])
     ensures { s.new ≡ stored kind s.old c.now }
 {
-    if byte_at(c, KIND_OFFSET) == kind {
-        if store_fits(s, c) {
-            let at = u32_at(c, STORE_PLACE_OFFSET) as usize;
-            let n = u16_at(c, STORE_COUNT_OFFSET) as usize;
-            copy(s, at, c, STORE_BYTES_OFFSET, n);
-        }
+    if byte_at(c, KIND_OFFSET) == kind_number(kind) && store_fits(s, c) {
+        let at = u32_at(c, STORE_PLACE_OFFSET) as usize;
+        let n = u16_at(c, STORE_COUNT_OFFSET) as usize;
+        copy(s, at, c, STORE_BYTES_OFFSET, n);
     }
 }

@@ -1,5 +1,6 @@
-// Two's complement, both ways.
-#![tactic(auto)]
+// Two's complement, both ways: std's casts, by the definition over the width in bytes. A function
+// for each type, as std has them: a generic one would go through a trait whose impls are these.
+#![tactic(auto, unfolding(crate::specs::Signed::signed, crate::specs::Signed::unsigned))]
 
 ghost use Rattle.std.specs.Prelude.{◌≡◌};
 ghost use Rattle.signed.specs.Signed.{signed, unsigned};
@@ -7,42 +8,30 @@ ghost use Rattle.signed.specs.Signed.{signed, unsigned};
 pub fn signed_u32(v: u32) -> i32
     ensures { result ≡ signed 4 v }
 {
-    if v < 0x8000_0000 {
-        return v as i32;
-    }
-    -1 - ((0xffff_ffff - v) as i32)
+    v.cast_signed()
 }
 
 pub fn signed_u64(v: u64) -> i64
     ensures { result ≡ signed 8 v }
 {
-    if v < 0x8000_0000_0000_0000 {
-        return v as i64;
-    }
-    -1 - ((0xffff_ffff_ffff_ffff - v) as i64)
+    v.cast_signed()
 }
 
 pub fn unsigned_i32(x: i32) -> u32
     ensures { result ≡ unsigned 4 x }
 {
-    if x >= 0 {
-        return x as u32;
-    }
-    0xffff_ffff - ((-1 - x) as u32)
+    x.cast_unsigned()
 }
 
 pub fn unsigned_i64(x: i64) -> u64
     ensures { result ≡ unsigned 8 x }
 {
-    if x >= 0 {
-        return x as u64;
-    }
-    0xffff_ffff_ffff_ffff - ((-1 - x) as u64)
+    x.cast_unsigned()
 }
 
 // The same number, wider.
 pub fn i32_to_i64(x: i32) -> i64
     ensures { result ≡ x }
 {
-    x as i64
+    i64::from(x)
 }

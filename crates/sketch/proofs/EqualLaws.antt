@@ -1,19 +1,23 @@
 -- Two scalars that a sheet may hold are equal exactly where `scalar_order` calls them so; Null alone has no order. Assumes nothing.
-use Rattle.std.proofs.Common.{◌≡◌, ℕ, zero, suc, ◌*◌, ◌<◌, Bool, true, false, cond, T, eqb, ltb, ◌↔◌, ℤ, pos, negsuc, sym, refl, ap, ◌∙◌, subst, le_refl, lt_irrefl, zero-lt-suc, le_antisymm, mul-pos, ltb-false, le-ltb, eq-eqb, eqb-true}
+use Rattle.std.proofs.Common.{◌≡◌, ℕ, zero, suc, ◌*◌, ◌<◌, Bool, true, false, T, eqb, ltb, ◌↔◌, ℤ, pos, sym, refl, ap, ◌∙◌, subst, lt_irrefl, zero-lt-suc, mul-pos, eq-eqb, eqb-true}
 use mathlib.Core.Bool.{false≢true}
-use lib.Signed.{lt_z}
-use lib.Ieee.{Float, nan, inf, fin, binary64, up, down, fits, lt, eq, level}
+use lib.Ieee.{Float, nan, inf, fin, binary64, up, down, fits, eq, level}
 use lib.Ieee.Fits.{up_pos, down_pos}
 use Rattle.rules.proofs.RuleLaws.{both_first, both_second}
 use Rattle.float.specs.Integers.{bit}
 use Rattle.float.specs.Order.{ordinary}
 use Rattle.float.proofs.RoundLaws.{value_unique}
 use Rattle.scalar.specs.Types.{is_null}
-use Rattle.scalar.specs.Order.{integer_order, float_order, order_then, integer_option_order, float_option_order, month_day_nano_order, day_time_order, scalar_order, is_equal}
+use Rattle.std.specs.Prelude.{Option, Some, None, option_and_then}
+use Rattle.std.specs.Ordering.{float_partial_cmp, partial_ordering_then}
+use Rattle.std.specs.declared.cmp.Ordering.{Ordering}
+use Rattle.std.specs.declared.cmp.Ordering.TheVariants.{Less, Equal, Greater}
+use Rattle.std.specs.Cmp.{signed_Decides}
+use Rattle.std.proofs.lemmas.Cmp.{tied_itself, int_cmp_total}
+use Rattle.std.proofs.lemmas.Float.{floats_po}
+use Rattle.scalar.specs.Order.{integer_order, month_day_nano_order, day_time_order, scalar_order, is_equal}
 use Rattle.scalar.specs.declared.Scalar.{Scalar}
 use Rattle.scalar.specs.declared.Scalar.TheVariants.{Null, Boolean, Int32, Int64, Float64, Decimal128, Date32, IntervalMonthDayNano, IntervalDayTime}
-use Rattle.scalar.specs.declared.order.ScalarOrdering.{ScalarOrdering}
-use Rattle.scalar.specs.declared.order.ScalarOrdering.TheVariants.{Less, Equal, Greater, Unordered}
 use Rattle.scalar.proofs.TypeLaws.{boolean_or_none, int32_or_none, int64_or_none, date32_or_none, float64_or_none, decimal128_or_none, month_day_nano_or_none, day_time_or_none}
 use Rattle.scalar.proofs.OrderCases.{boolean_order, int32_order, int64_order, date32_order, float64_order, decimal_order, month_day_nano_order_law, day_time_order_law}
 use Rattle.scalar_bytes.specs.Encoding.{lawful_scalar}
@@ -21,31 +25,17 @@ use Rattle.scalar_bytes.proofs.FloatLaws.{lawful_ordinary}
 
 -- ---- whole numbers
 
-pub integer_own : (x : ℤ) → integer_order x x ≡ Equal
-unfolding integer_order
-integer_own (pos n) = rw (le-ltb n n (le_refl n)) refl
-integer_own (negsuc n) = rw (le-ltb n n (le_refl n)) refl
+pub integer_own : (x : ℤ) → integer_order x x ≡ Some Equal
+integer_own x = ap Some (tied_itself int_cmp_total x)
 
 pub integer_same : (a b : ℤ) → is_equal (integer_order a b) ≡ true → a ≡ b
-unfolding integer_order
-integer_same a b h = let n = neither (lt_z a b) (lt_z b a) h in meet a b n.0 n.1
-  where
-    neither : (t u : Bool) → is_equal (cond t Less (cond u Greater Equal)) ≡ true → (t ≡ false) × (u ≡ false)
-    neither true u h = absurd (false≢true h)
-    neither false true h = absurd (false≢true h)
-    neither false false h = (refl, refl)
+integer_same a b = (signed_Decides a b).0
 
-    meet : (a b : ℤ) → lt_z a b ≡ false → lt_z b a ≡ false → a ≡ b
-    meet (pos a) (pos b) h k = ap pos (le_antisymm (ltb-false b a k) (ltb-false a b h))
-    meet (pos a) (negsuc b) h k = absurd (false≢true (sym k))
-    meet (negsuc a) (pos b) h k = absurd (false≢true (sym h))
-    meet (negsuc a) (negsuc b) h k = ap negsuc (le_antisymm (ltb-false b a h) (ltb-false a b k))
-
-both_equal : (o p : ScalarOrdering) → is_equal (order_then o p) ≡ true → (is_equal o ≡ true) × (is_equal p ≡ true)
-both_equal Less p h = absurd (false≢true h)
-both_equal Equal p h = (refl, h)
-both_equal Greater p h = absurd (false≢true h)
-both_equal Unordered p h = absurd (false≢true h)
+both_equal : (o p : Option Ordering) → is_equal (partial_ordering_then o p) ≡ true → (is_equal o ≡ true) × (is_equal p ≡ true)
+both_equal None p h = absurd (false≢true h)
+both_equal (Some Less) p h = absurd (false≢true h)
+both_equal (Some Equal) p h = (refl, h)
+both_equal (Some Greater) p h = absurd (false≢true h)
 
 -- ---- floats
 
@@ -82,23 +72,25 @@ float_same (fin s m e) (fin t n d) f g o p h =
     (one_sign s t m n e d o p h, eqb-true (m * up e * down d) (n * up d * down e) (both_first (eqb (m * up e * down d) (n * up d * down e)) _ h))
     (refl, refl)
 
-float_own : (x : Float) → T (ordinary x) → float_order x x ≡ Equal
-unfolding float_order lt eq
-float_own nan o = absurd o
-float_own (inf true) o = refl
-float_own (inf false) o = refl
-float_own (fin true m e) o = rw (le-ltb (m * up e * down e) (m * up e * down e) (le_refl (m * up e * down e)), eq-eqb (m * up e * down e) (m * up e * down e) refl) refl
-float_own (fin false m e) o = rw (le-ltb (m * up e * down e) (m * up e * down e) (le_refl (m * up e * down e)), eq-eqb (m * up e * down e) (m * up e * down e) refl) refl
+own_equal : (x : Float) → T (ordinary x) → eq x x ≡ true
+unfolding eq
+own_equal nan o = absurd o
+own_equal (inf true) o = refl
+own_equal (inf false) o = refl
+own_equal (fin true m e) o = rw (eq-eqb (m * up e * down e) (m * up e * down e) refl) refl
+own_equal (fin false m e) o = rw (eq-eqb (m * up e * down e) (m * up e * down e) refl) refl
 
-floats_equal : (x y : Float) → is_equal (float_order x y) ≡ true → eq x y ≡ true
-unfolding float_order
-floats_equal x y h = last (lt x y) (lt y x) (eq x y) h
-  where
-    last : (t u v : Bool) → is_equal (cond t Less (cond u Greater (cond v Equal Unordered))) ≡ true → v ≡ true
-    last true u v h = absurd (false≢true h)
-    last false true v h = absurd (false≢true h)
-    last false false true h = refl
-    last false false false h = absurd (false≢true h)
+float_own : (x : Float) → T (ordinary x) → float_partial_cmp x x ≡ Some Equal
+float_own x o = (floats_po.matches_eq x x).0 (own_equal x o)
+
+equal_is : (o : Option Ordering) → is_equal o ≡ true → o ≡ Some Equal
+equal_is None h = absurd (false≢true h)
+equal_is (Some Less) h = absurd (false≢true h)
+equal_is (Some Equal) h = refl
+equal_is (Some Greater) h = absurd (false≢true h)
+
+floats_equal : (x y : Float) → is_equal (float_partial_cmp x y) ≡ true → eq x y ≡ true
+floats_equal x y h = (floats_po.matches_eq x y).1 (equal_is (float_partial_cmp x y) h)
 
 -- ---- the law
 
@@ -116,41 +108,41 @@ ordered_same : (a b : Scalar) → lawful_scalar a ≡ true → lawful_scalar b �
 unfolding scalar_order
 ordered_same Null b la = λ lb h. absurd (false≢true h)
 ordered_same (Boolean x) b la =
-    boolean_or_none (λ b o. lawful_scalar b ≡ true → is_equal (integer_option_order (pos (bit x)) o) ≡ true → Boolean x ≡ b) (λ b lb h. absurd (false≢true h))
+    boolean_or_none (λ b o. lawful_scalar b ≡ true → is_equal (option_and_then (integer_order (pos (bit x))) o) ≡ true → Boolean x ≡ b) (λ b lb h. absurd (false≢true h))
     (λ y lb h. ap Boolean (bit_same x y (integer_same (pos (bit x)) (pos (bit y)) h))) b
 ordered_same (Int32 x) b la =
-    int32_or_none (λ b o. lawful_scalar b ≡ true → is_equal (integer_option_order x o) ≡ true → Int32 x ≡ b) (λ b lb h. absurd (false≢true h))
+    int32_or_none (λ b o. lawful_scalar b ≡ true → is_equal (option_and_then (integer_order x) o) ≡ true → Int32 x ≡ b) (λ b lb h. absurd (false≢true h))
     (λ y lb h. ap Int32 (integer_same x y h)) b
 ordered_same (Int64 x) b la =
-    int64_or_none (λ b o. lawful_scalar b ≡ true → is_equal (integer_option_order x o) ≡ true → Int64 x ≡ b) (λ b lb h. absurd (false≢true h))
+    int64_or_none (λ b o. lawful_scalar b ≡ true → is_equal (option_and_then (integer_order x) o) ≡ true → Int64 x ≡ b) (λ b lb h. absurd (false≢true h))
     (λ y lb h. ap Int64 (integer_same x y h)) b
 ordered_same (Float64 x) b la =
-    float64_or_none (λ b o. lawful_scalar b ≡ true → is_equal (float_option_order x o) ≡ true → Float64 x ≡ b) (λ b lb h. absurd (false≢true h))
+    float64_or_none (λ b o. lawful_scalar b ≡ true → is_equal (option_and_then (float_partial_cmp x) o) ≡ true → Float64 x ≡ b) (λ b lb h. absurd (false≢true h))
     (λ y lb h. let f = float_held x la in let g = float_held y lb in ap Float64 (float_same x y f.0 g.0 f.1 g.1 (floats_equal x y h))) b
 ordered_same (Decimal128 x p s) b la =
-    decimal128_or_none p s (λ b o. lawful_scalar b ≡ true → is_equal (integer_option_order x o) ≡ true → Decimal128 x p s ≡ b) (λ b lb h. absurd (false≢true h))
+    decimal128_or_none p s (λ b o. lawful_scalar b ≡ true → is_equal (option_and_then (integer_order x) o) ≡ true → Decimal128 x p s ≡ b) (λ b lb h. absurd (false≢true h))
     (λ y lb h. ap (λ (z : ℤ). Decimal128 z p s) (integer_same x y h)) b
 ordered_same (Date32 x) b la =
-    date32_or_none (λ b o. lawful_scalar b ≡ true → is_equal (integer_option_order x o) ≡ true → Date32 x ≡ b) (λ b lb h. absurd (false≢true h))
+    date32_or_none (λ b o. lawful_scalar b ≡ true → is_equal (option_and_then (integer_order x) o) ≡ true → Date32 x ≡ b) (λ b lb h. absurd (false≢true h))
     (λ y lb h. ap Date32 (integer_same x y h)) b
 ordered_same (IntervalMonthDayNano m d n) b la =
-    month_day_nano_or_none (λ b o. lawful_scalar b ≡ true → is_equal (month_day_nano_order m d n o) ≡ true → IntervalMonthDayNano m d n ≡ b) (λ b lb h. absurd (false≢true h))
+    month_day_nano_or_none (λ b o. lawful_scalar b ≡ true → is_equal (option_and_then (month_day_nano_order (record { months = m; days = d; nanoseconds = n })) o) ≡ true → IntervalMonthDayNano m d n ≡ b) (λ b lb h. absurd (false≢true h))
     (λ m' d' n' lb h.
-    let p = both_equal (integer_order m m') _ h in
-    let q = both_equal (integer_order d d') _ p.1 in
-    let x = integer_same m m' p.0 in
-    let y = integer_same d d' q.0 in
-    let z = integer_same n n' q.1 in
+    let p = both_equal (partial_ordering_then (integer_order m m') (integer_order d d')) (integer_order n n') h in
+    let q = both_equal (integer_order m m') (integer_order d d') p.0 in
+    let x = integer_same m m' q.0 in
+    let y = integer_same d d' q.1 in
+    let z = integer_same n n' p.1 in
     λ i. IntervalMonthDayNano (x i) (y i) (z i)) b
 ordered_same (IntervalDayTime d t) b la =
-    day_time_or_none (λ b o. lawful_scalar b ≡ true → is_equal (day_time_order d t o) ≡ true → IntervalDayTime d t ≡ b) (λ b lb h. absurd (false≢true h))
+    day_time_or_none (λ b o. lawful_scalar b ≡ true → is_equal (option_and_then (day_time_order (record { days = d; milliseconds = t })) o) ≡ true → IntervalDayTime d t ≡ b) (λ b lb h. absurd (false≢true h))
     (λ d' t' lb h.
     let p = both_equal (integer_order d d') _ h in
     let x = integer_same d d' p.0 in
     let y = integer_same t t' p.1 in
     λ i. IntervalDayTime (x i) (y i)) b
 
-own_order : (a : Scalar) → lawful_scalar a ≡ true → is_null a ≡ false → scalar_order a a ≡ Equal
+own_order : (a : Scalar) → lawful_scalar a ≡ true → is_null a ≡ false → scalar_order a a ≡ Some Equal
 own_order Null l n = absurd (false≢true (sym n))
 own_order (Boolean x) l n = boolean_order x x ∙ integer_own (pos (bit x))
 own_order (Int32 x) l n = int32_order x x ∙ integer_own x

@@ -1,5 +1,5 @@
 -- The items of a sketch from one of them on: what these give is what all of them give. Assumes nothing.
-use Rattle.std.proofs.Common.{◌≡◌, ℕ, ◌+◌, ◌-◌, ◌*◌, ◌<◌, ◌≤◌, true, false, cond, List, length, sym, refl, ap, ◌∙◌, arith}
+use Rattle.std.proofs.Common.{◌≡◌, ℕ, ◌+◌, ◌-◌, ◌*◌, ◌<◌, ◌≤◌, true, false, cond, List, length, Option, Some, None, sym, refl, ap, ◌∙◌, arith}
 use native.Mathlib.Nat.{sub-zero}
 use Rattle.le.specs.Fields.{u16_at, u64_at}
 use Rattle.scalar.specs.Order.{scalar_order, is_equal}
@@ -9,9 +9,8 @@ use Rattle.records.specs.Lists.{tabulate_from}
 use Rattle.records.specs.Sketches.{sketch_item_at, sketch_item, sketch_at}
 use Rattle.records.specs.declared.sketches.SketchItem.{SketchItem}
 use Rattle.records.proofs.ListLaws.{tabulate_length, tabulate_step, tabulate_end}
-use Rattle.sketch.specs.Frequent.{find_item, tracked_rows, residual_rows}
-use Rattle.sketch.specs.declared.items.FoundItem.{FoundItem}
-use Rattle.sketch.specs.declared.items.FoundItem.TheVariants.{Absent, Present}
+use Rattle.sketch.specs.Frequent.{counts_of, find_item, tracked_rows, residual_rows}
+use Rattle.sketch.specs.declared.items.Counts.{Counts}
 
 -- of n items, the i-th and those behind it
 abbrev pub items_from : List ℕ → ℕ → ℕ → ℕ → List SketchItem
@@ -27,19 +26,19 @@ items_all s at n e = rw (sub-zero, e, ← items_count s at) refl
 
 -- ---- the lookup
 
-module _ (s : List ℕ) (at : ℕ) (value : Scalar) (i n : ℕ) (found : FoundItem) (rest : find_item value (items_from s at i n) ≡ found) where
+module _ (s : List ℕ) (at : ℕ) (value : Scalar) (i n : ℕ) (found : Option Counts) (rest : find_item value (items_from s at i n) ≡ found) where
   find_step : i < n → find_item value (items_from s at i n)
-      ≡ cond (is_equal (scalar_order (scalar_at s (at + 10 + 35 * i)) value)) (Present (u64_at s (at + 10 + 35 * i + 19)) (u64_at s (at + 10 + 35 * i + 27))) (find_item value (items_from s at (i + 1) n))
+      ≡ cond (is_equal (scalar_order (scalar_at s (at + 10 + 35 * i)) value)) (Some (counts_of (sketch_item s at i))) (find_item value (items_from s at (i + 1) n))
   unfolding find_item sketch_item_at
   find_step h = ap (find_item value) (tabulate_step (sketch_item s at) i n h)
 
   pub find_next : i < n → is_equal (scalar_order (scalar_at s (at + 10 + 35 * i)) value) ≡ false → find_item value (items_from s at (i + 1) n) ≡ found
   find_next h e = sym (rw e at (find_step h)) ∙ rest
 
-  pub find_here : i < n → is_equal (scalar_order (scalar_at s (at + 10 + 35 * i)) value) ≡ true → Present (u64_at s (at + 10 + 35 * i + 19)) (u64_at s (at + 10 + 35 * i + 27)) ≡ found
+  pub find_here : i < n → is_equal (scalar_order (scalar_at s (at + 10 + 35 * i)) value) ≡ true → Some (counts_of (sketch_item s at i)) ≡ found
   find_here h e = sym (rw e at (find_step h)) ∙ rest
 
-  pub find_none : n ≤ i → Absent ≡ found
+  pub find_none : n ≤ i → None ≡ found
   unfolding find_item
   find_none h = sym (ap (find_item value) (tabulate_end (sketch_item s at) i n h)) ∙ rest
 

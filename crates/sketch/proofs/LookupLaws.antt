@@ -1,5 +1,5 @@
 -- Lookup finds the equal value or nothing, where all scalars are such as a sheet may hold. Assumes nothing.
-use Rattle.std.proofs.Common.{◌≡◌, Bool, true, false, cond, ◌≢◌, ◌↔◌, List, [], ◌∷◌, sym, refl, ap, ◌∙◌, ⊎_elim}
+use Rattle.std.proofs.Common.{◌≡◌, Bool, true, false, cond, ◌≢◌, ◌↔◌, Option, Some, None, List, [], ◌∷◌, sym, refl, ap, ◌∙◌, ⊎_elim}
 use mathlib.Core.Bool.{false≢true}
 use mathlib.Core.List.Memᴰ
 use mathlib.Core.List.{Memᴰ}
@@ -8,9 +8,8 @@ use Rattle.scalar.specs.Order.{scalar_order, is_equal}
 use Rattle.scalar.specs.declared.Scalar.{Scalar}
 use Rattle.scalar_bytes.specs.Encoding.{lawful_scalar}
 use Rattle.records.specs.declared.sketches.SketchItem.{SketchItem}
-use Rattle.sketch.specs.Frequent.{find_item}
-use Rattle.sketch.specs.declared.items.FoundItem.{FoundItem}
-use Rattle.sketch.specs.declared.items.FoundItem.TheVariants.{Absent, Present}
+use Rattle.sketch.specs.Frequent.{counts_of, find_item}
+use Rattle.sketch.specs.declared.items.Counts.{Counts}
 use Rattle.sketch.proofs.EqualLaws.{equal_law}
 
 -- a sketch may hold the item
@@ -25,10 +24,10 @@ AllHeld items = (x : SketchItem) → Memᴰ x items → Held x
 abbrev pub Only : SketchItem → List SketchItem → Type 0
 Only x items = (y : SketchItem) → Memᴰ y items → y.value ≡ x.value → y ≡ x
 
-abbrev told : SketchItem → FoundItem
-told x = Present x.lower x.error
+abbrev told : SketchItem → Option Counts
+told x = Some (counts_of x)
 
-pub found_law : (items : List SketchItem) → AllHeld items → (x : SketchItem) → Memᴰ x items → Only x items → find_item x.value items ≡ Present x.lower x.error
+pub found_law : (items : List SketchItem) → AllHeld items → (x : SketchItem) → Memᴰ x items → Only x items → find_item x.value items ≡ Some (counts_of x)
 unfolding find_item
 found_law [] held x m only = absurd (Memᴰ.not-nil m)
 found_law (y ∷ ys) held x m only =
@@ -45,7 +44,7 @@ found_law (y ∷ ys) held x m only =
     go false e rest = ⊎_elim (λ (s : x ≡ y). absurd (false≢true (sym e ∙ law.1 (ap (λ (z : SketchItem). z.value) (sym s))))) rest (Memᴰ.cases_cons m)
 
 pub absent_law : (items : List SketchItem) (value : Scalar) → AllHeld items → lawful_scalar value ≡ true
-    → ((x : SketchItem) → Memᴰ x items → x.value ≢ value) → find_item value items ≡ Absent
+    → ((x : SketchItem) → Memᴰ x items → x.value ≢ value) → find_item value items ≡ None
 unfolding find_item
 absent_law [] value held l none = refl
 absent_law (y ∷ ys) value held l none =
@@ -54,6 +53,6 @@ absent_law (y ∷ ys) value held l none =
     here : Memᴰ y (y ∷ ys)
     here = Memᴰ.head refl
 
-    go : (t : Bool) → is_equal (scalar_order y.value value) ≡ t → find_item value ys ≡ Absent → cond t (told y) (find_item value ys) ≡ Absent
+    go : (t : Bool) → is_equal (scalar_order y.value value) ≡ t → find_item value ys ≡ None → cond t (told y) (find_item value ys) ≡ None
     go true e rest = absurd (none y here ((equal_law y.value value (held y here).lawful l (held y here).no_null).0 e))
     go false e rest = rest

@@ -1,12 +1,10 @@
 -- Where the sketches of a section stand. Assumes nothing.
-use Rattle.std.proofs.Common.{◌≡◌, ℕ, ◌+◌, ◌*◌, ◌<◌, ◌≤◌, List, sym, refl, ap, ◌∙◌, subst}
+use Rattle.std.proofs.Common.{◌≡◌, ℕ, ◌+◌, ◌*◌, ◌<◌, ◌≤◌, List, Some, sym, refl, ap, ◌∙◌, subst, None}
 use lib.ListN.{get_or-eq_default}
 use lib.Ieee.{Float, of_int, le}
-use Rattle.float.specs.Option.{none}
 use Rattle.le.specs.Fields.{u16_at}
 use Rattle.scalar.specs.declared.Scalar.{Scalar}
 use Rattle.records.specs.Sketches.{sketch_at}
-use Rattle.records.specs.declared.columns.SketchNumber.TheVariants.{Present as SketchNo}
 use Rattle.sheet.specs.Order.{record_end, record_at}
 use Rattle.sheet.specs.Sheet.{records_in}
 use Rattle.sheet.specs.declared.order.Kind.TheVariants.{Sketches}
@@ -29,10 +27,10 @@ sketch_past s start k h = get_or-eq_default (records_in Sketches sketch_at s sta
 
 module _ (s : List ℕ) (start k : ℕ) (distinct : Float) (literal : Scalar) where
   pub numbered_there : (n at : ℕ) → n ≡ u16_at s start → k < n → at ≡ record_at Sketches s start k
-      → sketch_selectivity (sketch_at s at) distinct literal ≡ numbered_selectivity (SketchNo k) (records_in Sketches sketch_at s start) distinct literal
+      → sketch_selectivity (sketch_at s at) distinct literal ≡ numbered_selectivity (Some k) (records_in Sketches sketch_at s start) distinct literal
   numbered_there n at c h e = rw (e, sketch_there s start k (subst (λ (m : ℕ). k < m) c h)) refl
 
   -- the section does not hold it
-  pub numbered_past : (n : ℕ) → n ≡ u16_at s start → n ≤ k → none ≡ numbered_selectivity (SketchNo k) (records_in Sketches sketch_at s start) distinct literal
+  pub numbered_past : (n : ℕ) → n ≡ u16_at s start → n ≤ k → None ≡ numbered_selectivity (Some k) (records_in Sketches sketch_at s start) distinct literal
   unfolding sketch_selectivity of_int le
   numbered_past n c h = rw (sketch_past s start k (subst (λ (m : ℕ). m ≤ k) c h)) refl

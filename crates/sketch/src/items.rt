@@ -1,8 +1,10 @@
 // The items of a sketch, where they stand behind its head.
-ghost use Rattle.std.specs.Prelude.{◌≡◌, ◌+◌, ◌-◌, ◌*◌, ◌^◌, ◌<◌, ◌≤◌, length};
-ghost use Rattle.layout.specs.Places.{sketch_head_size, item_size};
-ghost use Rattle.records.specs.Sketches.{sketch_at};
-ghost use Rattle.sketch.specs.Frequent.{find_item, residual_rows};
+ghost use Rattle.std.specs.Prelude.{◌≡◌, ◌+◌, ◌*◌, ◌^◌, ◌<◌, ◌≤◌, length, IsTrue};
+ghost use Rattle.layout.specs.Places.{scalar_size, sketch_head_size, item_size};
+ghost use Rattle.scalar.specs.Order.{scalar_order, is_equal};
+ghost use Rattle.scalar_bytes.specs.Reading.{scalar_at};
+ghost use Rattle.records.specs.Sketches.{sketch_item_at, sketch_at};
+ghost use Rattle.sketch.specs.Frequent.{counts_of, find_item, residual_rows};
 
 use crate::values::{has_value, has_value_there};
 use layout::{
@@ -11,19 +13,21 @@ use layout::{
 use le::reads::{u16_at, u64_at, word_at};
 use scalar::Scalar;
 
-// What a sketch tells of a value: no item has it, or the item's counts.
-#[derive(Clone, Copy)]
-pub enum FoundItem {
-    Absent,
-    Present { lower: u64, error: u64 },
+// How often the value of an item occurs: at least `lower` times, and at most `error` more.
+#[derive(Clone, Copy, Debug, PartialEq, Eq)]
+pub struct Counts {
+    pub lower: u64,
+    pub error: u64,
 }
 
+#[tactic(auto, unfolding(records::specs::Sketches::sketch_at))]
 pub fn population(s: &[u8], at: usize) -> u64
     ensures { result ≡ (sketch_at s.now at).population }
 {
     u64_at(s, at)
 }
 
+#[tactic(auto, using(crate::proofs::ItemLaws::items_count))]
 pub fn item_count(s: &[u8], at: usize) -> u16
     requires { at < 2 ^ 60 }
     ensures { result ≡ length (sketch_at s.now at).items }
@@ -31,63 +35,58 @@ pub fn item_count(s: &[u8], at: usize) -> u16
     u16_at(s, at + SKETCH_COUNT_OFFSET)
 }
 
-// The lookup among n items that are all there.
-fn find_there(s: &[u8], at: usize, n: usize, value: Scalar) -> FoundItem
-    requires { (at < 2 ^ 40) × (n ≡ length (sketch_at s.now at).items) × (n < 2 ^ 16) × (at + sketch_head_size + item_size * n ≤ length s.now) }
-    ensures { result ≡ find_item value (sketch_at s.now at).items }
+// The counts of an item. THERE says that its bytes are all there: they are read with no test.
+#[tactic(auto, unfolding(records::specs::Sketches::sketch_item_at))]
+fn counts_at<const THERE: bool>(s: &[u8], item: usize) -> Counts
+    requires { (item < 2 ^ 60) × (IsTrue THERE → item + item_size ≤ length s.now) }
+    ensures { result ≡ counts_of (sketch_item_at s.now item) }
 {
-    let mut i: usize = 0;
-    while i < n {
-        let item = at + SKETCH_HEAD_SIZE + ITEM_SIZE * i;
-        if has_value_there(s, item, value) {
-            return FoundItem::Present {
-                lower: word_at(s, item + ITEM_LOWER_OFFSET),
-                error: word_at(s, item + ITEM_ERROR_OFFSET),
-            };
-        }
-        i += 1;
+    if THERE {
+        return Counts {
+            lower: word_at(s, item + ITEM_LOWER_OFFSET),
+            error: word_at(s, item + ITEM_ERROR_OFFSET),
+        };
     }
-    FoundItem::Absent
+    Counts {
+        lower: u64_at(s, item + ITEM_LOWER_OFFSET),
+        error: u64_at(s, item + ITEM_ERROR_OFFSET),
+    }
 }
 
-// As `find_there`, where the end cuts the items.
-fn find_cut(s: &[u8], at: usize, n: usize, value: Scalar) -> FoundItem
-    requires { (at < 2 ^ 40) × (n ≡ length (sketch_at s.now at).items) × (n < 2 ^ 16) }
-    ensures { result ≡ find_item value (sketch_at s.now at).items }
+// Whether an item has the value. THERE is as above.
+fn item_has<const THERE: bool>(s: &[u8], item: usize, value: Scalar) -> bool
+    requires { (item < 2 ^ 60) × (IsTrue THERE → item + scalar_size ≤ length s.now) }
+    ensures { result ≡ is_equal (scalar_order (scalar_at s.now item) value) }
 {
-    let mut i: usize = 0;
-    while i < n {
-        let item = at + SKETCH_HEAD_SIZE + ITEM_SIZE * i;
-        if has_value(s, item, value) {
-            return FoundItem::Present {
-                lower: u64_at(s, item + ITEM_LOWER_OFFSET),
-                error: u64_at(s, item + ITEM_ERROR_OFFSET),
-            };
-        }
-        i += 1;
+    if THERE {
+        return has_value_there(s, item, value);
     }
-    FoundItem::Absent
+    has_value(s, item, value)
 }
 
-pub fn find_item(s: &[u8], at: usize, value: Scalar) -> FoundItem
+// The lookup among n items, which THERE says are all there.
+fn find_among<const THERE: bool>(s: &[u8], at: usize, n: usize, value: Scalar) -> Option<Counts>
+    requires { (at < 2 ^ 40) × (n ≡ length (sketch_at s.now at).items) × (n < 2 ^ 16) × (IsTrue THERE → at + sketch_head_size + item_size * n ≤ length s.now) }
+    ensures { result ≡ find_item value (sketch_at s.now at).items }
+{
+    for i in 0..n {
+        let item = at + SKETCH_HEAD_SIZE + ITEM_SIZE * i;
+        if item_has::<THERE>(s, item, value) {
+            return Some(counts_at::<THERE>(s, item));
+        }
+    }
+    None
+}
+
+pub fn find_item(s: &[u8], at: usize, value: Scalar) -> Option<Counts>
     requires { at < 2 ^ 40 }
     ensures { result ≡ find_item value (sketch_at s.now at).items }
 {
     let n = item_count(s, at) as usize;
     if at + SKETCH_HEAD_SIZE + ITEM_SIZE * n <= s.len() {
-        return find_there(s, at, n, value);
+        return find_among::<true>(s, at, n, value);
     }
-    find_cut(s, at, n, value)
-}
-
-// a - b, or 0 where b is the larger.
-fn minus(a: u64, b: u64) -> u64
-    ensures { result ≡ a - b }
-{
-    if a < b {
-        return 0;
-    }
-    a - b
+    find_among::<false>(s, at, n, value)
 }
 
 // The rows that no item counts. Item by item they are taken from the population, so no sum is made
@@ -98,13 +97,11 @@ pub fn residual_rows(s: &[u8], at: usize) -> u64
 {
     let n = item_count(s, at) as usize;
     let mut rows = population(s, at);
-    let mut i: usize = 0;
-    while i < n {
-        rows = minus(
-            rows,
-            u64_at(s, at + SKETCH_HEAD_SIZE + ITEM_SIZE * i + ITEM_LOWER_OFFSET),
-        );
-        i += 1;
+    for i in 0..n {
+        rows = rows.saturating_sub(u64_at(
+            s,
+            at + SKETCH_HEAD_SIZE + ITEM_SIZE * i + ITEM_LOWER_OFFSET,
+        ));
     }
     rows
 }

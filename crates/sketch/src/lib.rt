@@ -2,19 +2,19 @@
 #![tactic(auto)]
 
 ghost use Rattle.std.specs.Prelude.{◌≡◌, ◌^◌, ◌<◌};
-ghost use Rattle.records.specs.Columns.{sketch_number_at, column_profile_at};
+ghost use Rattle.records.specs.Columns.{column_profile_at};
 ghost use Rattle.records.specs.Sketches.{sketch_at};
 ghost use Rattle.sheet.specs.Sheet.{records_in};
 ghost use Rattle.sheet.specs.declared.order.Kind.TheVariants.{Sketches};
 ghost use Rattle.sketch.specs.Frequent.{item_selectivity, residual_selectivity, found_selectivity, sketch_selectivity, numbered_selectivity, frequent_value_selectivity};
 
-use float::option::{OptionF64, none, some};
 use float::order::{clamp_unit, f64_max};
-use items::{FoundItem, find_item, item_count, population, residual_rows};
+use items::{Counts, find_item, item_count, population, residual_rows};
 use layout::{COLUMN_DISTINCT_OFFSET, COLUMN_SKETCH_OFFSET, ESTIMATE_VALUE_OFFSET};
 use le::floats::f64_at;
 use le::reads::u16_at;
 use places::sketch_place;
+use records::columns::sketch_number_at;
 use scalar::{Scalar, is_null};
 use std::num::nearest_u64_to_f64;
 
@@ -23,13 +23,14 @@ pub mod places;
 mod there;
 mod values;
 
-fn item_selectivity(population: u64, lower: u64, error: u64) -> f64
-    ensures { result ≡ item_selectivity population lower error }
+fn item_selectivity(population: u64, counts: Counts) -> f64
+    ensures { result ≡ item_selectivity population counts }
 {
-    let midpoint = nearest_u64_to_f64(lower) + nearest_u64_to_f64(error) * 0.5;
+    let midpoint = nearest_u64_to_f64(counts.lower) + nearest_u64_to_f64(counts.error) * 0.5;
     clamp_unit(midpoint / nearest_u64_to_f64(population))
 }
 
+#[tactic(auto, unfolding(crate::specs::Frequent::residual_selectivity))]
 fn residual_selectivity(s: &[u8], at: usize, distinct: f64) -> f64
     requires { at < 2 ^ 40 }
     ensures { result ≡ residual_selectivity (sketch_at s.now at) distinct }
@@ -39,61 +40,61 @@ fn residual_selectivity(s: &[u8], at: usize, distinct: f64) -> f64
     clamp_unit(rows / residual_distinct / nearest_u64_to_f64(population(s, at)))
 }
 
-fn found_selectivity(found: FoundItem, s: &[u8], at: usize, distinct: f64) -> f64
+fn found_selectivity(found: Option<Counts>, s: &[u8], at: usize, distinct: f64) -> f64
     requires { at < 2 ^ 40 }
     ensures { result ≡ found_selectivity found (sketch_at s.now at) distinct }
 {
     match found {
-        FoundItem::Absent => residual_selectivity(s, at, distinct),
-        FoundItem::Present { lower, error } => item_selectivity(population(s, at), lower, error),
+        None => residual_selectivity(s, at, distinct),
+        Some(counts) => item_selectivity(population(s, at), counts),
     }
 }
 
 // The sketch at a place.
-fn sketch_selectivity(s: &[u8], at: usize, distinct: f64, value: Scalar) -> OptionF64
+#[tactic(auto, unfolding(crate::specs::Frequent::sketch_selectivity))]
+fn sketch_selectivity(s: &[u8], at: usize, distinct: f64, value: Scalar) -> Option<f64>
     requires { at < 2 ^ 40 }
     ensures { result ≡ sketch_selectivity (sketch_at s.now at) distinct value }
 {
     if nearest_u64_to_f64(population(s, at)) <= 0.0 {
-        return none();
+        return None;
     }
-    some(found_selectivity(find_item(s, at, value), s, at, distinct))
+    Some(found_selectivity(find_item(s, at, value), s, at, distinct))
 }
 
-// The sketch whose number stands at a place. FFFF and a number that the section does not hold name
-// no sketch.
+// The sketch with a number. One that the section does not hold names no sketch.
+#[tactic(auto, using(crate::proofs::PlaceLaws::numbered_there, crate::proofs::PlaceLaws::numbered_past))]
 fn numbered_selectivity(
     s: &[u8],
     start: u16,
-    number: usize,
+    number: Option<u16>,
     distinct: f64,
     literal: Scalar,
-) -> OptionF64
-    ensures { result ≡ numbered_selectivity (sketch_number_at s.now number) (records_in Sketches sketch_at s.now start) distinct literal }
+) -> Option<f64>
+    ensures { result ≡ numbered_selectivity number (records_in Sketches sketch_at s.now start) distinct literal }
 {
-    let k = u16_at(s, number);
-    if k == 0xffff {
-        return none();
-    }
+    let k = number?;
     if k < u16_at(s, start as usize) {
         return sketch_selectivity(s, sketch_place(s, start as usize, k), distinct, literal);
     }
-    none()
+    None
 }
 
 // Of the profile at a place. `start` is the place of the count of a sheet's sketches.
+#[tactic(auto, unfolding(crate::specs::Frequent::frequent_value_selectivity, records::specs::Columns::column_profile_at))]
 pub fn frequent_value_selectivity(
     s: &[u8],
     start: u16,
     profile: usize,
     literal: Scalar,
-) -> OptionF64
+) -> Option<f64>
     requires { profile < 2 ^ 40 }
     ensures { result ≡ frequent_value_selectivity (records_in Sketches sketch_at s.now start) (column_profile_at s.now profile) literal }
 {
     if is_null(literal) {
-        return none();
+        return None;
     }
     let distinct = f64_at(s, profile + COLUMN_DISTINCT_OFFSET + ESTIMATE_VALUE_OFFSET);
-    numbered_selectivity(s, start, profile + COLUMN_SKETCH_OFFSET, distinct, literal)
+    let number = sketch_number_at(s, profile + COLUMN_SKETCH_OFFSET);
+    numbered_selectivity(s, start, number, distinct, literal)
 }

@@ -11,12 +11,9 @@ pub fn sketch_place(s: &[u8], start: usize, k: u16) -> usize
     requires { start < 2 ^ 16 }
     ensures { (result ≡ record_at Sketches s.now start k) × (result < 2 ^ 40) }
 {
-    let n = k as usize;
     let mut at = start + COUNT_SIZE;
-    let mut i: usize = 0;
-    while i < n {
-        at = at + SKETCH_HEAD_SIZE + ITEM_SIZE * (u16_at(s, at + SKETCH_COUNT_OFFSET) as usize);
-        i += 1;
+    for i in 0..k {
+        at += SKETCH_HEAD_SIZE + ITEM_SIZE * u16_at(s, at + SKETCH_COUNT_OFFSET) as usize;
     }
     at
 }

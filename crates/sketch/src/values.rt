@@ -1,10 +1,13 @@
 // Whether the scalar at a place is equal to a value, by its bytes where they stand: the tag first,
 // and behind it the numbers.
-ghost use Rattle.std.specs.Prelude.{◌≡◌, ◌+◌, ◌^◌, ◌<◌, ◌≤◌, length, pos};
+ghost use Rattle.std.specs.Prelude.{◌≡◌, ◌+◌, ◌^◌, ◌<◌, ◌≤◌, ◌&&◌, length, pos, eqb};
 ghost use Rattle.float.specs.Integers.{bit};
-ghost use Rattle.layout.specs.Places.{scalar_size};
-ghost use Rattle.scalar.specs.Order.{integer_order, float_order, scalar_order, is_equal};
-ghost use Rattle.scalar.specs.declared.Scalar.TheVariants.{Boolean, Int32, Int64, Float64, Decimal128, Date32, IntervalMonthDayNano, IntervalDayTime};
+ghost use Rattle.layout.specs.Places.{scalar_size, float_size, int32_size, int64_size, month_day_nano_days_offset, month_day_nano_nanoseconds_offset, month_day_nano_size, day_time_milliseconds_offset, day_time_size};
+ghost use Rattle.le.specs.Fields.{byte_at};
+ghost use Rattle.le.specs.Integers.{i32_at, i64_at};
+ghost use Rattle.le.specs.Floats.{f64_at};
+ghost use Rattle.std.specs.Ordering.{float_partial_cmp};
+ghost use Rattle.scalar.specs.Order.{integer_order, scalar_order, is_equal};
 ghost use Rattle.scalar_bytes.specs.Reading.{scalar_at};
 
 use crate::there::{byte_there, f64_there, i32_there, i64_there};
@@ -12,161 +15,91 @@ use layout::{
     DAY_TIME_MILLISECONDS_OFFSET, DECIMAL_DIGITS_OFFSET, DECIMAL_SCALE_OFFSET,
     MONTH_DAY_NANO_DAYS_OFFSET, MONTH_DAY_NANO_NANOSECONDS_OFFSET, SCALAR_VALUE_OFFSET,
 };
-use rules::both;
 use scalar::Scalar;
-use scalar::order::{is_equal, scalar_order};
+use scalar::order::scalar_order;
 use scalar_bytes::reads::scalar_at;
+use std::cmp::Ordering;
 
-fn equal_bool(a: bool, b: bool) -> bool
-    ensures { result ≡ is_equal (integer_order (pos (bit a)) (pos (bit b))) }
+#[tactic(auto, using(crate::proofs::ValueLaws::boolean_test))]
+fn is_bool(s: &[u8], at: usize, x: bool) -> bool
+    requires { at < length s.now }
+    ensures { result ≡ is_equal (integer_order (pos (bit (eqb (byte_at s.now at) 1))) (pos (bit x))) }
 {
-    a == b
+    (byte_there(s, at) == 1) == x
 }
 
-fn equal_i32(a: i32, b: i32) -> bool
-    ensures { result ≡ is_equal (integer_order a b) }
+// One for each type: a generic one would go through a trait whose impls are these.
+fn is_i32(s: &[u8], at: usize, x: i32) -> bool
+    requires { at + int32_size ≤ length s.now }
+    ensures { result ≡ is_equal (integer_order (i32_at s.now at) x) }
 {
-    a == b
+    i32_there(s, at) == x
 }
 
-fn equal_i64(a: i64, b: i64) -> bool
-    ensures { result ≡ is_equal (integer_order a b) }
+fn is_i64(s: &[u8], at: usize, x: i64) -> bool
+    requires { at + int64_size ≤ length s.now }
+    ensures { result ≡ is_equal (integer_order (i64_at s.now at) x) }
 {
-    a == b
+    i64_there(s, at) == x
 }
 
-fn equal_f64(x: f64, y: f64) -> bool
-    ensures { result ≡ is_equal (float_order x y) }
+#[tactic(auto, using(crate::proofs::ValueLaws::float_test))]
+fn is_f64(s: &[u8], at: usize, x: f64) -> bool
+    requires { at + float_size ≤ length s.now }
+    ensures { result ≡ is_equal (float_partial_cmp (f64_at s.now at) x) }
 {
-    x == y
+    f64_there(s, at) == x
 }
 
-fn has_boolean(s: &[u8], at: usize, x: bool) -> bool
-    requires { (at < 2 ^ 60) × (at + scalar_size ≤ length s.now) }
-    ensures { result ≡ is_equal (scalar_order (scalar_at s.now at) (Boolean x)) }
+fn is_month_day_nano(s: &[u8], at: usize, months: i32, days: i32, nanoseconds: i64) -> bool
+    requires { (at < 2 ^ 61) × (at + month_day_nano_size ≤ length s.now) }
+    ensures { result ≡ ((is_equal (integer_order (i32_at s.now at) months) && is_equal (integer_order (i32_at s.now (at + month_day_nano_days_offset)) days)) && is_equal (integer_order (i64_at s.now (at + month_day_nano_nanoseconds_offset)) nanoseconds)) }
 {
-    if byte_there(s, at) != 1 {
-        return false;
-    }
-    equal_bool(byte_there(s, at + SCALAR_VALUE_OFFSET) == 1, x)
+    is_i32(s, at, months)
+        && is_i32(s, at + MONTH_DAY_NANO_DAYS_OFFSET, days)
+        && is_i64(s, at + MONTH_DAY_NANO_NANOSECONDS_OFFSET, nanoseconds)
 }
 
-fn has_int32(s: &[u8], at: usize, x: i32) -> bool
-    requires { (at < 2 ^ 60) × (at + scalar_size ≤ length s.now) }
-    ensures { result ≡ is_equal (scalar_order (scalar_at s.now at) (Int32 x)) }
+fn is_day_time(s: &[u8], at: usize, days: i32, milliseconds: i32) -> bool
+    requires { (at < 2 ^ 61) × (at + day_time_size ≤ length s.now) }
+    ensures { result ≡ (is_equal (integer_order (i32_at s.now at) days) && is_equal (integer_order (i32_at s.now (at + day_time_milliseconds_offset)) milliseconds)) }
 {
-    if byte_there(s, at) != 2 {
-        return false;
-    }
-    equal_i32(i32_there(s, at + SCALAR_VALUE_OFFSET), x)
+    is_i32(s, at, days) && is_i32(s, at + DAY_TIME_MILLISECONDS_OFFSET, milliseconds)
 }
 
-fn has_int64(s: &[u8], at: usize, x: i64) -> bool
-    requires { (at < 2 ^ 60) × (at + scalar_size ≤ length s.now) }
-    ensures { result ≡ is_equal (scalar_order (scalar_at s.now at) (Int64 x)) }
-{
-    if byte_there(s, at) != 3 {
-        return false;
-    }
-    equal_i64(i64_there(s, at + SCALAR_VALUE_OFFSET), x)
-}
-
-fn has_float64(s: &[u8], at: usize, x: f64) -> bool
-    requires { (at < 2 ^ 60) × (at + scalar_size ≤ length s.now) }
-    ensures { result ≡ is_equal (scalar_order (scalar_at s.now at) (Float64 x)) }
-{
-    if byte_there(s, at) != 4 {
-        return false;
-    }
-    equal_f64(f64_there(s, at + SCALAR_VALUE_OFFSET), x)
-}
-
-fn has_decimal128(s: &[u8], at: usize, value: i64, precision: u8, scale: u8) -> bool
-    requires { (at < 2 ^ 60) × (at + scalar_size ≤ length s.now) }
-    ensures { result ≡ is_equal (scalar_order (scalar_at s.now at) (Decimal128 value precision scale)) }
-{
-    if byte_there(s, at) != 5 {
-        return false;
-    }
-    let same_precision = byte_there(s, at + SCALAR_VALUE_OFFSET) == precision;
-    let same_scale = byte_there(s, at + (SCALAR_VALUE_OFFSET + DECIMAL_SCALE_OFFSET)) == scale;
-    let same_number = equal_i64(
-        i64_there(s, at + (SCALAR_VALUE_OFFSET + DECIMAL_DIGITS_OFFSET)),
-        value,
-    );
-    both(both(same_precision, same_scale), same_number)
-}
-
-fn has_date32(s: &[u8], at: usize, x: i32) -> bool
-    requires { (at < 2 ^ 60) × (at + scalar_size ≤ length s.now) }
-    ensures { result ≡ is_equal (scalar_order (scalar_at s.now at) (Date32 x)) }
-{
-    if byte_there(s, at) != 6 {
-        return false;
-    }
-    equal_i32(i32_there(s, at + SCALAR_VALUE_OFFSET), x)
-}
-
-fn has_month_day_nano(s: &[u8], at: usize, months: i32, days: i32, nanoseconds: i64) -> bool
-    requires { (at < 2 ^ 60) × (at + scalar_size ≤ length s.now) }
-    ensures { result ≡ is_equal (scalar_order (scalar_at s.now at) (IntervalMonthDayNano months days nanoseconds)) }
-{
-    if byte_there(s, at) != 8 {
-        return false;
-    }
-    let same_months = equal_i32(i32_there(s, at + SCALAR_VALUE_OFFSET), months);
-    let same_days = equal_i32(
-        i32_there(s, at + (SCALAR_VALUE_OFFSET + MONTH_DAY_NANO_DAYS_OFFSET)),
-        days,
-    );
-    let same_nanoseconds = equal_i64(
-        i64_there(
-            s,
-            at + (SCALAR_VALUE_OFFSET + MONTH_DAY_NANO_NANOSECONDS_OFFSET),
-        ),
-        nanoseconds,
-    );
-    both(same_months, both(same_days, same_nanoseconds))
-}
-
-fn has_day_time(s: &[u8], at: usize, days: i32, milliseconds: i32) -> bool
-    requires { (at < 2 ^ 60) × (at + scalar_size ≤ length s.now) }
-    ensures { result ≡ is_equal (scalar_order (scalar_at s.now at) (IntervalDayTime days milliseconds)) }
-{
-    if byte_there(s, at) != 9 {
-        return false;
-    }
-    let same_days = equal_i32(i32_there(s, at + SCALAR_VALUE_OFFSET), days);
-    let same_milliseconds = equal_i32(
-        i32_there(s, at + (SCALAR_VALUE_OFFSET + DAY_TIME_MILLISECONDS_OFFSET)),
-        milliseconds,
-    );
-    both(same_days, same_milliseconds)
-}
-
-// Null has no order, so it is equal to nothing.
+// Null has no order, so it is equal to nothing. The tag is read arm by arm: once before them costs a
+// lookup an instruction for each item.
+#[tactic(auto, using(crate::proofs::ValueLaws::values))]
 pub fn has_value_there(s: &[u8], at: usize, value: Scalar) -> bool
     requires { (at < 2 ^ 60) × (at + scalar_size ≤ length s.now) }
     ensures { result ≡ is_equal (scalar_order (scalar_at s.now at) value) }
 {
+    let first = at + SCALAR_VALUE_OFFSET;
     match value {
         Scalar::Null => false,
-        Scalar::Boolean(x) => has_boolean(s, at, x),
-        Scalar::Int32(x) => has_int32(s, at, x),
-        Scalar::Int64(x) => has_int64(s, at, x),
-        Scalar::Float64(x) => has_float64(s, at, x),
+        Scalar::Boolean(x) => byte_there(s, at) == 1 && is_bool(s, first, x),
+        Scalar::Int32(x) => byte_there(s, at) == 2 && is_i32(s, first, x),
+        Scalar::Int64(x) => byte_there(s, at) == 3 && is_i64(s, first, x),
+        Scalar::Float64(x) => byte_there(s, at) == 4 && is_f64(s, first, x),
         Scalar::Decimal128 {
-            value: number,
+            value: digits,
             precision,
             scale,
-        } => has_decimal128(s, at, number, precision, scale),
-        Scalar::Date32(x) => has_date32(s, at, x),
+        } => {
+            byte_there(s, at) == 5
+                && byte_there(s, first) == precision
+                && byte_there(s, first + DECIMAL_SCALE_OFFSET) == scale
+                && is_i64(s, first + DECIMAL_DIGITS_OFFSET, digits)
+        }
+        Scalar::Date32(x) => byte_there(s, at) == 6 && is_i32(s, first, x),
         Scalar::IntervalMonthDayNano {
             months,
             days,
             nanoseconds,
-        } => has_month_day_nano(s, at, months, days, nanoseconds),
-        Scalar::IntervalDayTime { days, milliseconds } => has_day_time(s, at, days, milliseconds),
+        } => { byte_there(s, at) == 8 && is_month_day_nano(s, first, months, days, nanoseconds) }
+        Scalar::IntervalDayTime { days, milliseconds } => {
+            byte_there(s, at) == 9 && is_day_time(s, first, days, milliseconds)
+        }
     }
 }
 
@@ -175,5 +108,5 @@ pub fn has_value(s: &[u8], at: usize, value: Scalar) -> bool
     requires { at < 2 ^ 60 }
     ensures { result ≡ is_equal (scalar_order (scalar_at s.now at) value) }
 {
-    is_equal(scalar_order(scalar_at(s, at), value))
+    scalar_order(scalar_at(s, at), value) == Some(Ordering::Equal)
 }

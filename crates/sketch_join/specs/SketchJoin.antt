@@ -1,18 +1,16 @@
 -- `sketch_join_estimate` and `sketch_left_match_probability` of the source's analysis.rs, for a left and a right column that are found. The items of the left sketch are gone through in sheet order. Definitions only.
-use Rattle.std.specs.Prelude.{ℕ, ◌+◌, Bool, cond, ◌&&◌, ◌||◌, List, [], ◌∷◌, ◌==◌, nat_lt, Float}
+use Rattle.std.specs.Prelude.{ℕ, ◌+◌, Bool, cond, ◌&&◌, ◌||◌, List, [], ◌∷◌, ◌==◌, nat_lt, Float, Option, Some, None}
 use Rattle.std.specs.Float.{binary64}
 use Rattle.std.specs.Float.Ieee.{add, sub, mul, div, lt, le}
 use Rattle.float.specs.Order.{f64_zero, f64_one, f64_max, f64_min, clamp_unit}
-use Rattle.float.specs.Option.{some, none}
-use Rattle.float.specs.declared.option.OptionF64.{OptionF64}
+use Rattle.le.specs.Fields.{u16_at}
 use Rattle.records.specs.Sketches.{Sketch}
 use Rattle.records.specs.declared.sketches.SketchItem.{SketchItem}
 use Rattle.records.specs.declared.columns.ColumnProfile.{ColumnProfile}
-use Rattle.records.specs.declared.columns.SketchNumber.{SketchNumber}
-use Rattle.records.specs.declared.columns.SketchNumber.TheVariants.{Absent as NoSketch, Present as SketchNo}
+use Rattle.sheet.specs.Order.{record_at}
+use Rattle.sheet.specs.declared.order.Kind.TheVariants.{Sketches}
 use Rattle.sketch.specs.Frequent.{sketch_of, find_item, count}
-use Rattle.sketch.specs.declared.items.FoundItem.{FoundItem}
-use Rattle.sketch.specs.declared.items.FoundItem.TheVariants.{Absent, Present}
+use Rattle.sketch.specs.declared.items.Counts.{Counts}
 use Rattle.range.specs.Selectivity.{non_null_fraction}
 use Rattle.sketch_join.specs.declared.sums.CommonValues.{CommonValues}
 use Rattle.sketch_join.specs.declared.sums.MatchedValues.{MatchedValues}
@@ -24,22 +22,26 @@ non_null_rows sketch profile rows = mul binary64 (count sketch.population) (non_
 
 -- ---- values that both sketches track
 
-unfoldable pub with_common : CommonValues → ℕ → FoundItem → CommonValues
-with_common sums lower Absent = sums
-with_common sums lower (Present other error) =
-    cond (lt f64_zero (count lower) && lt f64_zero (count other))
+unfoldable pub with_common : CommonValues → ℕ → Option Counts → CommonValues
+with_common sums lower None = sums
+with_common sums lower (Some other) =
+    cond (lt f64_zero (count lower) && lt f64_zero (count other.lower))
     (record {
-      heavy_join_rows = add binary64 sums.heavy_join_rows (mul binary64 (count lower) (count other));
+      heavy_join_rows = add binary64 sums.heavy_join_rows (mul binary64 (count lower) (count other.lower));
       common_left_rows = add binary64 sums.common_left_rows (count lower);
-      common_right_rows = add binary64 sums.common_right_rows (count other);
+      common_right_rows = add binary64 sums.common_right_rows (count other.lower);
       common_values = sums.common_values + 1;
     })
     sums
 
-unfoldable pub common_from : CommonValues → List SketchItem → List SketchItem → CommonValues
-unfolding with_common find_item
-common_from sums [] right = sums
-common_from sums (x ∷ xs) right = common_from (with_common sums x.lower (find_item x.value right)) xs right
+-- over the items on the left, each with what those on the right tell of its value
+unfoldable pub summed : {S : Type 0} → (S → ℕ → Option Counts → S) → S → List SketchItem → List SketchItem → S
+unfolding find_item
+summed more sums [] right = sums
+summed more sums (x ∷ xs) right = summed more (more sums x.lower (find_item x.value right)) xs right
+
+abbrev pub common_from : CommonValues → List SketchItem → List SketchItem → CommonValues
+common_from sums left right = summed with_common sums left right
 
 abbrev pub common_values : List SketchItem → List SketchItem → CommonValues
 common_values left right = common_from (record { heavy_join_rows = f64_zero; common_left_rows = f64_zero; common_right_rows = f64_zero; common_values = 0 }) left right
@@ -63,40 +65,49 @@ pair_selectivity left right sums residual =
 abbrev pub either_empty : Sketch → Sketch → Bool
 either_empty left right = left.population == 0 || right.population == 0
 
-unfoldable pub sketches_join : Sketch → Sketch → ColumnProfile → Float → ColumnProfile → Float → OptionF64
-unfolding non_null_rows common_from residual_join_rows pair_selectivity
+unfoldable pub sketches_join : Sketch → Sketch → ColumnProfile → Float → ColumnProfile → Float → Option Float
+unfolding non_null_rows with_common summed residual_join_rows pair_selectivity
 sketches_join left right left_profile left_rows right_profile right_rows =
     let sums = common_values left.items right.items in
     let residual = residual_join_rows sums (non_null_rows left left_profile left_rows) (non_null_rows right right_profile right_rows) left_profile.distinct.value right_profile.distinct.value in
-    cond (either_empty left right) none (some (pair_selectivity left right sums residual))
+    cond (either_empty left right) None (Some (pair_selectivity left right sums residual))
 
-abbrev pub numbered_join : SketchNumber → SketchNumber → List Sketch → ColumnProfile → Float → ColumnProfile → Float → OptionF64
-numbered_join NoSketch right sketches left_profile left_rows right_profile right_rows = none
-numbered_join (SketchNo i) NoSketch sketches left_profile left_rows right_profile right_rows = none
-numbered_join (SketchNo i) (SketchNo j) sketches left_profile left_rows right_profile right_rows =
-    sketches_join (sketch_of sketches i) (sketch_of sketches j) left_profile left_rows right_profile right_rows
+-- the places of two sketches, where the section at `start` holds both
+abbrev pub both_places : List ℕ → ℕ → Option ℕ → Option ℕ → Option (ℕ × ℕ)
+both_places s start None right = None
+both_places s start (Some i) None = None
+both_places s start (Some i) (Some j) =
+    cond (nat_lt i (u16_at s start) && nat_lt j (u16_at s start)) (Some (record_at Sketches s start i, record_at Sketches s start j)) None
 
-unfoldable pub sketch_join_estimate : List Sketch → ColumnProfile → Float → ColumnProfile → Float → OptionF64
+-- of two sketches by their numbers
+abbrev pub numbered : {A : Type 0} → A → (Sketch → Sketch → A) → List Sketch → Option ℕ → Option ℕ → A
+numbered lacking f sketches None right = lacking
+numbered lacking f sketches (Some i) None = lacking
+numbered lacking f sketches (Some i) (Some j) = f (sketch_of sketches i) (sketch_of sketches j)
+
+abbrev pub numbered_join : Option ℕ → Option ℕ → List Sketch → ColumnProfile → Float → ColumnProfile → Float → Option Float
+numbered_join i j sketches left_profile left_rows right_profile right_rows =
+    numbered None (λ left right. sketches_join left right left_profile left_rows right_profile right_rows) sketches i j
+
+unfoldable pub sketch_join_estimate : List Sketch → ColumnProfile → Float → ColumnProfile → Float → Option Float
 unfolding sketches_join
 sketch_join_estimate sketches left_profile left_rows right_profile right_rows =
     numbered_join left_profile.sketch right_profile.sketch sketches left_profile left_rows right_profile right_rows
 
 -- ---- the part of the left rows that find a partner
 
-unfoldable pub with_matched : MatchedValues → ℕ → FoundItem → MatchedValues
-with_matched sums lower Absent = sums
-with_matched sums lower (Present other error) =
-    cond (lt f64_zero (count lower) && nat_lt 0 other)
+unfoldable pub with_matched : MatchedValues → ℕ → Option Counts → MatchedValues
+with_matched sums lower None = sums
+with_matched sums lower (Some other) =
+    cond (lt f64_zero (count lower) && nat_lt 0 other.lower)
     (record {
       known_matched_left_rows = add binary64 sums.known_matched_left_rows (count lower);
       common_values = add binary64 sums.common_values f64_one;
     })
     sums
 
-unfoldable pub matched_from : MatchedValues → List SketchItem → List SketchItem → MatchedValues
-unfolding with_matched find_item
-matched_from sums [] right = sums
-matched_from sums (x ∷ xs) right = matched_from (with_matched sums x.lower (find_item x.value right)) xs right
+abbrev pub matched_from : MatchedValues → List SketchItem → List SketchItem → MatchedValues
+matched_from sums left right = summed with_matched sums left right
 
 abbrev pub matched_values : List SketchItem → List SketchItem → MatchedValues
 matched_values left right = matched_from (record { known_matched_left_rows = f64_zero; common_values = f64_zero }) left right
@@ -111,20 +122,18 @@ residual_matched_left_rows sums left_non_null_rows intersection_distinct left_di
 unfoldable pub match_probability : Sketch → MatchedValues → Float → Float
 match_probability left sums residual = clamp_unit (div binary64 (add binary64 sums.known_matched_left_rows residual) (count left.population))
 
-unfoldable pub sketches_match : Sketch → Sketch → ColumnProfile → Float → Float → Float → OptionF64
-unfolding non_null_rows matched_from residual_matched_left_rows match_probability
+unfoldable pub sketches_match : Sketch → Sketch → ColumnProfile → Float → Float → Float → Option Float
+unfolding non_null_rows with_matched summed residual_matched_left_rows match_probability
 sketches_match left right left_profile left_rows intersection_distinct left_distinct =
     let sums = matched_values left.items right.items in
     let residual = residual_matched_left_rows sums (non_null_rows left left_profile left_rows) intersection_distinct left_distinct in
-    cond (either_empty left right) none (some (match_probability left sums residual))
+    cond (either_empty left right) None (Some (match_probability left sums residual))
 
-abbrev pub numbered_match : SketchNumber → SketchNumber → List Sketch → ColumnProfile → Float → Float → Float → OptionF64
-numbered_match NoSketch right sketches left_profile left_rows intersection_distinct left_distinct = none
-numbered_match (SketchNo i) NoSketch sketches left_profile left_rows intersection_distinct left_distinct = none
-numbered_match (SketchNo i) (SketchNo j) sketches left_profile left_rows intersection_distinct left_distinct =
-    sketches_match (sketch_of sketches i) (sketch_of sketches j) left_profile left_rows intersection_distinct left_distinct
+abbrev pub numbered_match : Option ℕ → Option ℕ → List Sketch → ColumnProfile → Float → Float → Float → Option Float
+numbered_match i j sketches left_profile left_rows intersection_distinct left_distinct =
+    numbered None (λ left right. sketches_match left right left_profile left_rows intersection_distinct left_distinct) sketches i j
 
-unfoldable pub sketch_left_match_probability : List Sketch → ColumnProfile → Float → ColumnProfile → Float → Float → OptionF64
+unfoldable pub sketch_left_match_probability : List Sketch → ColumnProfile → Float → ColumnProfile → Float → Float → Option Float
 unfolding sketches_match
 sketch_left_match_probability sketches left_profile left_rows right_profile intersection_distinct left_distinct =
     numbered_match left_profile.sketch right_profile.sketch sketches left_profile left_rows intersection_distinct left_distinct

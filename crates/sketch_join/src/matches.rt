@@ -5,12 +5,12 @@ ghost use Rattle.sketch_join.specs.SketchJoin.{residual_matched_left_rows, match
 
 use crate::rows::{either_empty, non_null_rows};
 use crate::sums::{MatchedValues, matched_values};
-use float::option::{OptionF64, none, some};
 use float::order::{clamp_unit, f64_max, f64_min};
 use records::columns::ColumnProfile;
 use sketch::items::population;
 use std::num::nearest_u64_to_f64;
 
+#[tactic(auto, unfolding(crate::specs::SketchJoin::residual_matched_left_rows))]
 fn residual_matched_left_rows(
     sums: MatchedValues,
     left_non_null_rows: f64,
@@ -31,6 +31,7 @@ fn residual_matched_left_rows(
     residual_left_rows * residual_intersection / residual_left_distinct
 }
 
+#[tactic(auto, unfolding(crate::specs::SketchJoin::match_probability))]
 fn match_probability(s: &[u8], left_at: usize, sums: MatchedValues, residual: f64) -> f64
     ensures { result ≡ match_probability (sketch_at s.now left_at) sums residual }
 {
@@ -39,6 +40,7 @@ fn match_probability(s: &[u8], left_at: usize, sums: MatchedValues, residual: f6
 }
 
 // The sketches at two places.
+#[tactic(auto, unfolding(crate::specs::SketchJoin::sketches_match))]
 pub fn sketches_match(
     s: &[u8],
     left_at: usize,
@@ -47,12 +49,12 @@ pub fn sketches_match(
     left_rows: f64,
     intersection_distinct: f64,
     left_distinct: f64,
-) -> OptionF64
+) -> Option<f64>
     requires { (left_at < 2 ^ 40) × (right_at < 2 ^ 40) }
     ensures { result ≡ sketches_match (sketch_at s.now left_at) (sketch_at s.now right_at) left left_rows intersection_distinct left_distinct }
 {
     if either_empty(s, left_at, right_at) {
-        return none();
+        return None;
     }
     let sums = matched_values(s, left_at, right_at);
     let left_non_null_rows = non_null_rows(s, left_at, left, left_rows);
@@ -62,5 +64,5 @@ pub fn sketches_match(
         intersection_distinct,
         left_distinct,
     );
-    some(match_probability(s, left_at, sums, residual))
+    Some(match_probability(s, left_at, sums, residual))
 }

@@ -5,12 +5,12 @@ ghost use Rattle.sketch_join.specs.SketchJoin.{residual_join_rows, pair_selectiv
 
 use crate::rows::{either_empty, non_null_rows};
 use crate::sums::{CommonValues, common_values};
-use float::option::{OptionF64, none, some};
 use float::order::{clamp_unit, f64_max};
 use records::columns::ColumnProfile;
 use sketch::items::population;
 use std::num::nearest_u64_to_f64;
 
+#[tactic(auto, unfolding(crate::specs::SketchJoin::residual_join_rows))]
 fn residual_join_rows(
     sums: CommonValues,
     left_non_null_rows: f64,
@@ -28,6 +28,7 @@ fn residual_join_rows(
     left_residual_rows * right_residual_rows / f64_max(left_residual_ndv, right_residual_ndv)
 }
 
+#[tactic(auto, unfolding(crate::specs::SketchJoin::pair_selectivity))]
 fn pair_selectivity(
     s: &[u8],
     left_at: usize,
@@ -43,6 +44,7 @@ fn pair_selectivity(
 }
 
 // The sketches at two places.
+#[tactic(auto, unfolding(crate::specs::SketchJoin::sketches_join))]
 pub fn sketches_join(
     s: &[u8],
     left_at: usize,
@@ -51,12 +53,12 @@ pub fn sketches_join(
     left_rows: f64,
     right: ColumnProfile,
     right_rows: f64,
-) -> OptionF64
+) -> Option<f64>
     requires { (left_at < 2 ^ 40) × (right_at < 2 ^ 40) }
     ensures { result ≡ sketches_join (sketch_at s.now left_at) (sketch_at s.now right_at) left left_rows right right_rows }
 {
     if either_empty(s, left_at, right_at) {
-        return none();
+        return None;
     }
     let sums = common_values(s, left_at, right_at);
     let left_non_null_rows = non_null_rows(s, left_at, left, left_rows);
@@ -68,5 +70,5 @@ pub fn sketches_join(
         left.distinct.value,
         right.distinct.value,
     );
-    some(pair_selectivity(s, left_at, right_at, sums, residual))
+    Some(pair_selectivity(s, left_at, right_at, sums, residual))
 }

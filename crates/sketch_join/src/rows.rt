@@ -5,10 +5,10 @@ ghost use Rattle.sketch_join.specs.SketchJoin.{non_null_rows, either_empty};
 
 use range::selectivity::non_null_fraction;
 use records::columns::ColumnProfile;
-use rules::either;
 use sketch::items::population;
 use std::num::nearest_u64_to_f64;
 
+#[tactic(auto, unfolding(crate::specs::SketchJoin::non_null_rows))]
 pub fn non_null_rows(s: &[u8], at: usize, profile: ColumnProfile, rows: f64) -> f64
     ensures { result ≡ non_null_rows (sketch_at s.now at) profile rows }
 {
@@ -18,5 +18,5 @@ pub fn non_null_rows(s: &[u8], at: usize, profile: ColumnProfile, rows: f64) -> 
 pub fn either_empty(s: &[u8], left_at: usize, right_at: usize) -> bool
     ensures { result ≡ either_empty (sketch_at s.now left_at) (sketch_at s.now right_at) }
 {
-    either(population(s, left_at) == 0, population(s, right_at) == 0)
+    population(s, left_at) == 0 || population(s, right_at) == 0
 }

@@ -5,13 +5,12 @@ ghost use Rattle.sketch_join.specs.SketchJoin.{with_common, common_values, with_
 
 use layout::{ITEM_LOWER_OFFSET, ITEM_SIZE, SKETCH_HEAD_SIZE};
 use le::reads::u64_at;
-use rules::both;
 use scalar_bytes::reads::scalar_at;
-use sketch::items::{FoundItem, find_item, item_count};
+use sketch::items::{Counts, find_item, item_count};
 use std::num::nearest_u64_to_f64;
 
 // For pairs of rows.
-#[derive(Clone, Copy)]
+#[derive(Clone, Copy, Debug, PartialEq)]
 pub struct CommonValues {
     pub heavy_join_rows: f64,
     pub common_left_rows: f64,
@@ -20,25 +19,23 @@ pub struct CommonValues {
 }
 
 // For rows of the left side.
-#[derive(Clone, Copy)]
+#[derive(Clone, Copy, Debug, PartialEq)]
 pub struct MatchedValues {
     pub known_matched_left_rows: f64,
     pub common_values: f64,
 }
 
-fn with_common(sums: CommonValues, lower: u64, found: FoundItem) -> CommonValues
+#[tactic(auto, unfolding(crate::specs::SketchJoin::with_common))]
+fn with_common(sums: CommonValues, lower: u64, found: Option<Counts>) -> CommonValues
     requires { sums.common_values < 2 ^ 32 }
     ensures { result ≡ with_common sums lower found }
 {
     match found {
-        FoundItem::Absent => sums,
-        FoundItem::Present {
-            lower: other,
-            error: _,
-        } => {
+        None => sums,
+        Some(other) => {
             let left_frequency = nearest_u64_to_f64(lower);
-            let right_frequency = nearest_u64_to_f64(other);
-            if both(0.0 < left_frequency, 0.0 < right_frequency) {
+            let right_frequency = nearest_u64_to_f64(other.lower);
+            if 0.0 < left_frequency && 0.0 < right_frequency {
                 return CommonValues {
                     heavy_join_rows: sums.heavy_join_rows + left_frequency * right_frequency,
                     common_left_rows: sums.common_left_rows + left_frequency,
@@ -63,27 +60,23 @@ pub fn common_values(s: &[u8], left_at: usize, right_at: usize) -> CommonValues
         common_right_rows: 0.0,
         common_values: 0,
     };
-    let mut i: usize = 0;
-    while i < n {
+    for i in 0..n {
         let item = left_at + SKETCH_HEAD_SIZE + ITEM_SIZE * i;
         let found = find_item(s, right_at, scalar_at(s, item));
         sums = with_common(sums, u64_at(s, item + ITEM_LOWER_OFFSET), found);
-        i += 1;
     }
     sums
 }
 
-fn with_matched(sums: MatchedValues, lower: u64, found: FoundItem) -> MatchedValues
+#[tactic(auto, unfolding(crate::specs::SketchJoin::with_matched))]
+fn with_matched(sums: MatchedValues, lower: u64, found: Option<Counts>) -> MatchedValues
     ensures { result ≡ with_matched sums lower found }
 {
     match found {
-        FoundItem::Absent => sums,
-        FoundItem::Present {
-            lower: other,
-            error: _,
-        } => {
+        None => sums,
+        Some(other) => {
             let left_frequency = nearest_u64_to_f64(lower);
-            if both(0.0 < left_frequency, 0 < other) {
+            if 0.0 < left_frequency && 0 < other.lower {
                 return MatchedValues {
                     known_matched_left_rows: sums.known_matched_left_rows + left_frequency,
                     common_values: sums.common_values + 1.0,
@@ -94,7 +87,8 @@ fn with_matched(sums: MatchedValues, lower: u64, found: FoundItem) -> MatchedVal
     }
 }
 
-// The sums over the items of the sketch at `left_at`.
+// The sums over the items of the sketch at `left_at`. This walk and the other stay two: one that takes
+// the step would have to carry the bound on the other's count through it.
 pub fn matched_values(s: &[u8], left_at: usize, right_at: usize) -> MatchedValues
     requires { (left_at < 2 ^ 40) × (right_at < 2 ^ 40) }
     ensures { result ≡ matched_values (sketch_at s.now left_at).items (sketch_at s.now right_at).items }
@@ -104,12 +98,10 @@ pub fn matched_values(s: &[u8], left_at: usize, right_at: usize) -> MatchedValue
         known_matched_left_rows: 0.0,
         common_values: 0.0,
     };
-    let mut i: usize = 0;
-    while i < n {
+    for i in 0..n {
         let item = left_at + SKETCH_HEAD_SIZE + ITEM_SIZE * i;
         let found = find_item(s, right_at, scalar_at(s, item));
         sums = with_matched(sums, u64_at(s, item + ITEM_LOWER_OFFSET), found);
-        i += 1;
     }
     sums
 }

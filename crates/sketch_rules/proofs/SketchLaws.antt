@@ -18,7 +18,7 @@ use Rattle.layout.proofs.LayoutLaws.{EachField, ◌and◌, sizes, record_kept, r
 use Rattle.scalar.specs.Types.{is_null}
 use Rattle.scalar.specs.declared.Scalar.{Scalar}
 use Rattle.scalar.specs.declared.Scalar.TheVariants.{Null, Boolean, Int32, Int64, Float64, Decimal128, Date32, IntervalMonthDayNano, IntervalDayTime}
-use Rattle.scalar.specs.declared.Bound.TheVariants.{Absent, Present}
+use Rattle.std.specs.Prelude.{Some, None}
 use Rattle.scalar_bytes.specs.Reading.{scalar_refusal, scalar_at, bound_at}
 use Rattle.scalar_bytes.specs.Encoding.{bound_bytes, lawful_scalar, lawful_bound, place_allows}
 use Rattle.scalar_bytes.specs.declared.reads.ScalarPlace.TheVariants.{Sketch}
@@ -81,11 +81,11 @@ head_written s items at b e =
 
 -- ---- an item
 
-given_lawful : (x : Scalar) → lawful_scalar x ≡ true → lawful_bound (Present x) ≡ true
+given_lawful : (x : Scalar) → lawful_scalar x ≡ true → lawful_bound (Some x) ≡ true
 unfolding lawful_bound
 given_lawful x h = h
 
-given_allowed : (x : Scalar) → is_null x ≡ false → place_allows Sketch (Present x) ≡ true
+given_allowed : (x : Scalar) → is_null x ≡ false → place_allows Sketch (Some x) ≡ true
 unfolding place_allows
 given_allowed Null h = absurd (false≢true (sym h))
 given_allowed (Boolean b) h = refl
@@ -98,11 +98,11 @@ given_allowed (IntervalMonthDayNano months days nanoseconds) h = refl
 given_allowed (IntervalDayTime days milliseconds) h = refl
 
 -- a sketch's scalar is there
-given_at : (s : List ℕ) (at : ℕ) → scalar_refusal Sketch s at ≡ 0 → bound_at s at ≡ Present (scalar_at s at)
+given_at : (s : List ℕ) (at : ℕ) → scalar_refusal Sketch s at ≡ 0 → bound_at s at ≡ Some (scalar_at s at)
 unfolding bound_at place_allows
 given_at s at e = go (eqb (byte_at s at) 255) (accepted_allowed Sketch s at e)
   where
-    go : (b : Bool) → place_allows Sketch (cond b Absent (Present (scalar_at s at))) ≡ true → cond b Absent (Present (scalar_at s at)) ≡ Present (scalar_at s at)
+    go : (b : Bool) → place_allows Sketch (cond b None (Some (scalar_at s at))) ≡ true → cond b None (Some (scalar_at s at)) ≡ Some (scalar_at s at)
     go true h = absurd (false≢true h)
     go false h = refl
 
@@ -111,7 +111,7 @@ item_size_law = refl
 
 item_fields_law : EachField (LawfulField LawfulItem) item_fields
 item_fields_law =
-    bound_lawful LawfulItem (λ x. Present x.value) _ (λ x h. given_lawful x.value h.value)
+    bound_lawful LawfulItem (λ x. Some x.value) _ (λ x h. given_lawful x.value h.value)
     and sized_lawful LawfulItem wide_size (λ x. x.lower) _ (λ x h. let a = h.lower in omega arith)
     and sized_lawful LawfulItem wide_size (λ x. x.error) _ (λ x h. let a = h.error in omega arith)
     and tt
@@ -143,7 +143,7 @@ unfolding item_refusal
 item_accepted x s t first j h a e =
     let at : ℕ = first + item_size * j in
     let fields = stands item_fields (sizes LawfulItem item_fields item_fields_law) x s t at 0 e in
-    let scalar = bound_accepted s at Sketch (Present x.value) fields.0.0 (given_lawful x.value h.value) (given_allowed x.value h.present) fields.0.1 in
+    let scalar = bound_accepted s at Sketch (Some x.value) fields.0.0 (given_lawful x.value h.value) (given_allowed x.value h.present) fields.0.1 in
     record_accepted item_fields (sizes LawfulItem item_fields item_fields_law) (record { first = first; j = j }) x s t at e
     ((λ i. or_else (scalar i) (a i))
     and ap (λ (n : ℕ). ask (leb n count_limit) 4) (lower_read x s t at h e) ∙ count_kept x.lower h.lower

@@ -17,23 +17,23 @@ use Rattle.lookup.proofs.RecursionLaws.{below_is, below_not}
 use Rattle.le.specs.Fields.{onto}
 use Rattle.number_bytes.proofs.FilledLaws.{Filled, filled_first, filled_within, filled_room, filled_part, filled_next, filled_length, filled_all}
 use Rattle.split.specs.Conjuncts.{and_run, flattened, run_conjuncts, conjuncts_by, itself, conjuncts}
-use Rattle.split.specs.declared.run.AndRun.{AndRun}
-use Rattle.split.specs.declared.run.AndRun.TheVariants.{Absent, Present}
+use Rattle.split.specs.declared.run.Run.{Run}
+use Rattle.std.specs.Prelude.{Option, None, Some}
 
 -- ---- one expression
 
-module _ (sheet : Sheet) (e : ℕ) (x : Expression) (run : AndRun) (at : x ≡ expression_of sheet e) (is : run ≡ and_run x) where
+module _ (sheet : Sheet) (e : ℕ) (x : Expression) (run : Option Run) (at : x ≡ expression_of sheet e) (is : run ≡ and_run x) where
   by_run : run_conjuncts sheet (below (conjuncts_by sheet) itself e) e run ≡ conjuncts sheet e
   unfolding conjuncts by_number conjuncts_by
   by_run = ap (run_conjuncts sheet (below (conjuncts_by sheet) itself e) e) (is ∙ ap and_run at)
 
   -- no And: itself
-  pub alone : run ≡ Absent → e ∷ [] ≡ conjuncts sheet e
+  pub alone : run ≡ None → e ∷ [] ≡ conjuncts sheet e
   alone a = ap (run_conjuncts sheet (below (conjuncts_by sheet) itself e) e) (sym a) ∙ by_run
 
   -- an And: its operands'
-  pub apart : (first count : ℕ) → run ≡ Present first count → flattened (below (conjuncts_by sheet) itself e) (operands_of sheet first count) ≡ conjuncts sheet e
-  apart first count a = ap (run_conjuncts sheet (below (conjuncts_by sheet) itself e) e) (sym a) ∙ by_run
+  pub apart : (r : Run) → run ≡ Some r → flattened (below (conjuncts_by sheet) itself e) (operands_of sheet r.first r.count) ≡ conjuncts sheet e
+  apart r a = ap (run_conjuncts sheet (below (conjuncts_by sheet) itself e) e) (sym a) ∙ by_run
 
 -- ---- an operand, below a limit or not
 

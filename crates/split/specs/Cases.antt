@@ -1,6 +1,5 @@
 -- Worked splits: an And within an And, an empty And, an Or, and what is neither. Assumes nothing.
-use Rattle.std.specs.Prelude.{◌≡◌, refl, [], ◌∷◌}
-use Rattle.float.specs.Option.{none}
+use Rattle.std.specs.Prelude.{◌≡◌, refl, [], ◌∷◌, None}
 use Rattle.float.specs.Order.{f64_zero}
 use Rattle.estimate.specs.Estimates.{estimate_of}
 use Rattle.estimate.specs.declared.Estimate.{Estimate}
@@ -11,7 +10,7 @@ use Rattle.sheet.specs.Sheet.{Sheet}
 use Rattle.split.specs.Conjuncts.{conjuncts}
 
 abbrev nothing : Estimate
-nothing = estimate_of f64_zero none none Catalog
+nothing = estimate_of f64_zero None None Catalog
 
 -- expression 4 is an And of 2 and of 3, which is an And of 0, 1 and 0; 2 is an Or of 1
 abbrev sheet : Sheet

@@ -1,33 +1,26 @@
 -- `conjuncts` of the source's analysis.rs: an And taken apart to any depth. Definitions only.
-use Rattle.std.specs.Prelude.{ℕ, List, [], ◌∷◌, ◌++◌}
-use Rattle.records.specs.declared.expressions.NaryOp.TheVariants.{And, Or}
+use Rattle.std.specs.Prelude.{ℕ, List, [], ◌∷◌, ◌++◌, Option, None, Some}
+use Rattle.records.specs.declared.expressions.NaryOp.TheVariants.{And}
 use Rattle.records.specs.declared.expressions.Expression.{Expression}
-use Rattle.records.specs.declared.expressions.Expression.TheVariants.{Literal, ColumnRef, Unary, Binary, Nary, Like, Other}
+use Rattle.records.specs.declared.expressions.Expression.TheVariants.{Nary}
 use Rattle.sheet.specs.Sheet.{Sheet}
 use Rattle.lookup.specs.Lookup.{expression_of, operands_of}
 use Rattle.lookup.specs.Recursion.{by_number}
-use Rattle.split.specs.declared.run.AndRun.{AndRun}
-use Rattle.split.specs.declared.run.AndRun.TheVariants.{Absent, Present}
+use Rattle.split.specs.declared.run.Run.{Run}
 
 -- the operands of an And
-abbrev pub and_run : Expression → AndRun
-and_run (Literal value) = Absent
-and_run (ColumnRef column) = Absent
-and_run (Unary op expr) = Absent
-and_run (Binary op left right) = Absent
-and_run (Nary And first count) = Present first count
-and_run (Nary Or first count) = Absent
-and_run Like = Absent
-and_run Other = Absent
+abbrev pub and_run : Expression → Option Run
+and_run (Nary And first count) = Some (record { first = first; count = count })
+and_run _ = None
 
 -- the conjuncts of each operand, one after the other
 unfoldable pub flattened : (ℕ → List ℕ) → List ℕ → List ℕ
 flattened conjuncts_of [] = []
 flattened conjuncts_of (o ∷ os) = conjuncts_of o ++ flattened conjuncts_of os
 
-abbrev pub run_conjuncts : Sheet → (ℕ → List ℕ) → ℕ → AndRun → List ℕ
-run_conjuncts sheet conjuncts_of e Absent = e ∷ []
-run_conjuncts sheet conjuncts_of e (Present first count) = flattened conjuncts_of (operands_of sheet first count)
+abbrev pub run_conjuncts : Sheet → (ℕ → List ℕ) → ℕ → Option Run → List ℕ
+run_conjuncts sheet conjuncts_of e None = e ∷ []
+run_conjuncts sheet conjuncts_of e (Some run) = flattened conjuncts_of (operands_of sheet run.first run.count)
 
 -- by the conjuncts of smaller numbers
 unfoldable pub conjuncts_by : Sheet → (ℕ → List ℕ) → ℕ → List ℕ

@@ -10,7 +10,7 @@ ghost use Rattle.sheet.specs.Sheet.{sheet_of};
 ghost use Rattle.split.specs.Conjuncts.{flattened, conjuncts_by, itself, conjuncts};
 
 use lookup::numbers::{expression_of, operand_in, run_end};
-use run::{AndRun, and_run};
+use run::and_run;
 use sheet::Sections;
 
 mod run;
@@ -22,13 +22,12 @@ pub fn put_conjuncts(s: &[u8], q: Sections, e: u16, numbers: &mut [u16]) -> usiz
     ensures value { result ≡ length (conjuncts (sheet_of s.now q) e) }
     ensures numbers_after { numbers.new ≡ onto (conjuncts (sheet_of s.now q) e) numbers.old }
 {
-    let run = and_run(expression_of(s, q, e));
-    match run {
-        AndRun::Absent => {
+    match and_run(expression_of(s, q, e)) {
+        Some(run) => put_operands(s, q, run.first, run.count, e, numbers),
+        None => {
             numbers[0] = e;
             1
         }
-        AndRun::Present { first, count } => put_operands(s, q, first, count, e, numbers),
     }
 }
 
@@ -47,10 +46,8 @@ fn put_operands(
     ensures value { result ≡ length (flattened (below (conjuncts_by (sheet_of s.now q)) itself limit) (operands_of (sheet_of s.now q) first count)) }
     ensures numbers_after { numbers.new ≡ onto (flattened (below (conjuncts_by (sheet_of s.now q)) itself limit) (operands_of (sheet_of s.now q) first count)) numbers.old }
 {
-    let end = run_end(s, q, first, count);
     let mut at: usize = 0;
-    let mut i = first as usize;
-    while i < end {
+    for i in first as usize..run_end(s, q, first, count) {
         let o = operand_in(s, q, i);
         if o < limit {
             at += put_conjuncts(s, q, o, &mut numbers[at..]);
@@ -58,7 +55,6 @@ fn put_operands(
             numbers[at] = o;
             at += 1;
         }
-        i += 1;
     }
     at
 }

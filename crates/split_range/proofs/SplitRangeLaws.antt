@@ -26,8 +26,8 @@ use Rattle.lookup.specs.Lookup.{expression_of, operand_in}
 use Rattle.lookup.specs.Recursion.{below}
 use Rattle.lookup.proofs.LookupLaws.{expressions_length, expression_found, expression_missing, operands_length, operands_from}
 use Rattle.split.specs.Conjuncts.{and_run, flattened, conjuncts_by, itself, conjuncts}
-use Rattle.split.specs.declared.run.AndRun.{AndRun}
-use Rattle.split.specs.declared.run.AndRun.TheVariants.{Absent, Present}
+use Rattle.split.specs.declared.run.Run.{Run}
+use Rattle.std.specs.Prelude.{Option, None, Some}
 use Rattle.split.proofs.ConjunctLaws.{alone, apart, operand_below}
 use Rattle.split_range.proofs.SumLaws.{sum, sum_rises, slots_most}
 use Rattle.lawful.proofs.OperandLaws.{runs_rise}
@@ -60,18 +60,18 @@ module _ (s : List ℕ) (kept : sheet_refusal s ≡ 0) where
   many e = length (conjuncts sheet e)
 
   -- an And's conjuncts; 0 for any other expression
-  abbrev of_run : AndRun → ℕ → ℕ
-  of_run Absent n = 0
-  of_run (Present first count) n = n
+  abbrev of_run : Option Run → ℕ → ℕ
+  of_run None n = 0
+  of_run (Some run) n = n
 
   abbrev of_and : ℕ → ℕ
   of_and e = of_run (and_run (expression_of sheet e)) (many e)
 
   -- an And is one of the sheet's expressions and n-ary, with its own fields
-  abbrev Fields : ℕ → AndRun → Type 0
-  Fields e Absent = Unit {0}
-  Fields e (Present first count) =
-      (e < u16_at s x) × ((is_nary s (expression_place x e) ≡ true) × ((first ≡ u16_at s (expression_place x e + 2)) × (count ≡ u16_at s (expression_place x e + 4))))
+  abbrev Fields : ℕ → Option Run → Type 0
+  Fields e None = Unit {0}
+  Fields e (Some run) =
+      (e < u16_at s x) × ((is_nary s (expression_place x e) ≡ true) × ((run.first ≡ u16_at s (expression_place x e + 2)) × (run.count ≡ u16_at s (expression_place x e + 4))))
 
   fields_at : (e : ℕ) → e < u16_at s x → Fields e (and_run (expression_at s (expression_place x e)))
   unfolding expression_at
@@ -103,11 +103,11 @@ module _ (s : List ℕ) (kept : sheet_refusal s ≡ 0) where
   one : (o : ℕ) → many o ≤ suc (of_and o)
   one o = go (and_run (expression_of sheet o)) refl
     where
-      go : (run : AndRun) → run ≡ and_run (expression_of sheet o) → many o ≤ suc (of_run run (many o))
-      go Absent q =
-          let a : 1 ≡ many o = ap length (alone sheet o (expression_of sheet o) Absent refl q refl) in
+      go : (run : Option Run) → run ≡ and_run (expression_of sheet o) → many o ≤ suc (of_run run (many o))
+      go None q =
+          let a : 1 ≡ many o = ap length (alone sheet o (expression_of sheet o) None refl q refl) in
           omega arith
-      go (Present first count) q = omega arith
+      go (Some run) q = omega arith
 
   abbrev slot : ℕ → ℕ
   slot i = operand_in s start i
@@ -123,21 +123,21 @@ module _ (s : List ℕ) (kept : sheet_refusal s ≡ 0) where
       c : ℕ → List ℕ
       c = below (conjuncts_by sheet) itself n
 
-      go : (run : AndRun) → run ≡ and_run (expression_of sheet n) → Fields n run → sum h (runs_before s x n) + of_run run (many n) ≤ sum h (runs_before s x (suc n))
-      go Absent q k =
+      go : (run : Option Run) → run ≡ and_run (expression_of sheet n) → Fields n run → sum h (runs_before s x n) + of_run run (many n) ≤ sum h (runs_before s x (suc n))
+      go None q k =
           let r = sum_rises h (runs_before s x n) (runs_before s x (suc n)) (runs_rise s x n (suc n) (omega arith)) in
           omega arith
-      go (Present first count) q k =
+      go (Some run) q k =
           let at : ℕ = expression_place x n in
-          let starts : first ≡ runs_before s x n = k.1.1.0 ∙ follow s kept n l k.1.0 in
-          let counts : run_length s at ≡ count = ap (λ (t : Bool). cond t (u16_at s (at + 4)) 0) k.1.0 ∙ sym k.1.1.1 in
-          let ends : first + count ≡ runs_before s x (suc n) = let r = runs_next s x n in omega arith in
+          let starts : run.first ≡ runs_before s x n = k.1.1.0 ∙ follow s kept n l k.1.0 in
+          let counts : run_length s at ≡ run.count = ap (λ (t : Bool). cond t (u16_at s (at + 4)) 0) k.1.0 ∙ sym k.1.1.1 in
+          let ends : run.first + run.count ≡ runs_before s x (suc n) = let r = runs_next s x n in omega arith in
           let within = (runs_within s kept n l).0 in
           let long : u16_at s start ≡ length sheet.operands = operands_length s (sections_in s) in
-          let all : min (first + count) (length sheet.operands) - first ≡ count = omega arith in
-          let is : flattened c (tabulate_from slot first count) ≡ conjuncts sheet n = ap (λ (m : ℕ). flattened c (tabulate_from slot first m)) (sym all) ∙ ap (flattened c) (sym (operands_from s (sections_in s) first count)) ∙ apart sheet n (expression_of sheet n) (Present first count) refl q first count refl in
-          let most = flattened_sum c slot many first count (λ j m. ap length (sym (operand_below sheet n (slot j) (slot_below s kept n l j (subst (λ (r : ℕ). j < r) ends m))))) in
-          let size : length (flattened c (tabulate_from slot first count)) ≡ many n = ap length is in
+          let all : min (run.first + run.count) (length sheet.operands) - run.first ≡ run.count = omega arith in
+          let is : flattened c (tabulate_from slot run.first run.count) ≡ conjuncts sheet n = ap (λ (m : ℕ). flattened c (tabulate_from slot run.first m)) (sym all) ∙ ap (flattened c) (sym (operands_from s (sections_in s) run.first run.count)) ∙ apart sheet n (expression_of sheet n) (Some run) refl q run refl in
+          let most = flattened_sum c slot many run.first run.count (λ j m. ap length (sym (operand_below sheet n (slot j) (slot_below s kept n l j (subst (λ (r : ℕ). j < r) ends m))))) in
+          let size : length (flattened c (tabulate_from slot run.first run.count)) ≡ many n = ap length is in
           let a = ap (sum h) starts in
           let b = ap (sum h) ends in
           omega arith
@@ -145,9 +145,9 @@ module _ (s : List ℕ) (kept : sheet_refusal s ≡ 0) where
   conjuncts_most : (e : ℕ) → many e ≤ operand_limit
   conjuncts_most e = go (and_run (expression_of sheet e)) (fields e) (one e) most
     where
-      shared : (o : ℕ) → (is_nary s (expression_place x o) ≡ true → ⊥) → (run : AndRun) → Fields o run → of_run run (many o) ≡ 0
-      shared o never Absent k = refl
-      shared o never (Present first count) k = absurd (never k.1.0)
+      shared : (o : ℕ) → (is_nary s (expression_place x o) ≡ true → ⊥) → (run : Option Run) → Fields o run → of_run run (many o) ≡ 0
+      shared o never None k = refl
+      shared o never (Some run) k = absurd (never k.1.0)
 
       most : e < u16_at s x → of_and e ≤ operand_limit
       most l =
@@ -155,9 +155,9 @@ module _ (s : List ℕ) (kept : sheet_refusal s ≡ 0) where
           let m = slots_most slot (runs_before s x) of_and many e (λ n h. run_conjuncts_law n (omega arith)) one (slot_below s kept e l) (λ i j h k q. shared (slot j) (slot_once s kept e l i j h k q) (and_run (expression_of sheet (slot j))) (fields (slot j))) in
           omega arith
 
-      go : (run : AndRun) → Fields e run → many e ≤ suc (of_run run (many e)) → (e < u16_at s x → of_run run (many e) ≤ operand_limit) → many e ≤ operand_limit
-      go Absent k a m = omega arith
-      go (Present first count) k a m = m k.0
+      go : (run : Option Run) → Fields e run → many e ≤ suc (of_run run (many e)) → (e < u16_at s x → of_run run (many e) ≤ operand_limit) → many e ≤ operand_limit
+      go None k a m = omega arith
+      go (Some run) k a m = m k.0
 
 -- So two bytes hold the number of conjuncts, and it and they, of two bytes each, fill at most 1,026.
 pub accepted_split : (s : List ℕ) → sheet_refusal s ≡ 0 → (e : ℕ) → length (conjuncts (sheet_in s) e) ≤ operand_limit

@@ -11,11 +11,11 @@ use lib.Dec.{T, leb, leb→le, ltb→lt, lit≤}
 use lib.Ieee.{binary64, of_int, div, fits}
 use lib.Ieee.Fits.{and_l, and_r}
 use lib.Ieee.Positive.{num, den, value→cross}
+use Rattle.std.specs.Prelude.{IfSome}
 use Rattle.float.specs.Order.{f64_zero}
 use Rattle.float.specs.Tens.{power_of_ten}
 use Rattle.float.proofs.IntegerLaws.{of_int_neg}
 use Rattle.float.proofs.TenLaws.{ten_exact, ten_fits, ten_positive}
-use Rattle.float.proofs.UnitLaws.{zero_unit}
 use Rattle.scalar.specs.Number.{scalar_to_f64}
 use Rattle.scalar.specs.declared.Scalar.{Scalar}
 use Rattle.scalar.specs.declared.Scalar.TheVariants.{Null, Boolean, Int32, Int64, Float64, Decimal128, Date32, IntervalMonthDayNano, IntervalDayTime}
@@ -71,10 +71,7 @@ decimal_tame z k h l =
     let x = div binary64 (of_int binary64 z) (power_of_ten k) in
     spread_tame 74 63 x (lit≤ tt) (lit≤ tt) (div_spread 0 63 0 74 (of_int binary64 z) (power_of_ten k) (lit≤ tt) (lit≤ tt) (signed_spread z h) t.0 t.1)
 
--- ---- scalars; where there is no number, 0 stands in its place
-pub zero_tame : Tame f64_zero
-zero_tame = record { held = zero_unit.held; lawful = tt }
-
+-- ---- scalars that have a number
 pub holds : (b : Bool) → b ≡ true → T b
 holds b e = subst T (sym e) tt
 
@@ -84,10 +81,10 @@ narrow z h = Nat.le_trans (ltb→lt (mag z) (2 ^ 31) h) (lit≤ tt)
 pub wide : (z : ℤ) → T (in64 z) → mag z < 2 ^ 63
 wide z h = ltb→lt (mag z) (2 ^ 63) h
 
-pub scalar_tame : (x : Scalar) → lawful_scalar x ≡ true → Tame (scalar_to_f64 x).number
+pub scalar_tame : (x : Scalar) → lawful_scalar x ≡ true → IfSome (scalar_to_f64 x) Tame
 unfolding lawful_scalar scalar_to_f64
-scalar_tame Null h = zero_tame
-scalar_tame (Boolean b) h = zero_tame
+scalar_tame Null h = tt
+scalar_tame (Boolean b) h = tt
 scalar_tame (Int32 x) h = integer_tame x (narrow x (holds (in32 x) h))
 scalar_tame (Int64 x) h = integer_tame x (wide x (holds (in64 x) h))
 scalar_tame (Float64 x) h = let t = holds (fits binary64 x && float64_lawful x) h in record { held = and_l (fits binary64 x) (float64_lawful x) t; lawful = and_r (fits binary64 x) (float64_lawful x) t }
@@ -97,5 +94,5 @@ scalar_tame (Decimal128 value precision scale) h =
     let t = holds (in64 value && s) h in
     decimal_tame value scale (wide value (and_l (in64 value) s t)) (leb→le scale 22 (and_r p (leb scale 22) (and_r (in64 value) s t)))
 scalar_tame (Date32 x) h = integer_tame x (narrow x (holds (in32 x) h))
-scalar_tame (IntervalMonthDayNano months days nanoseconds) h = zero_tame
-scalar_tame (IntervalDayTime days milliseconds) h = zero_tame
+scalar_tame (IntervalMonthDayNano months days nanoseconds) h = tt
+scalar_tame (IntervalDayTime days milliseconds) h = tt

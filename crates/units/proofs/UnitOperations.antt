@@ -1,4 +1,5 @@
 -- Operations on values from 0 to 1 that give such values: the estimate with the bounds 0 and 1, the complement, the quotient by a number that is no less than 1, and the clamped sum. Assumes nothing.
+use Rattle.std.specs.Prelude.{Some}
 use mathlib.Core.Path.{◌≡◌, refl, ap}
 use mathlib.Core.Bool.{Bool, true, false, cond}
 use Prim.Native.Nat.{◌*◌}
@@ -7,7 +8,6 @@ use lib.Dec.{T, lit≤}
 use lib.Ieee.{Float, nan, inf, fin, binary64, add, sub, div, lt, le, fits}
 use lib.Ieee.Positive.{num, den}
 use Rattle.float.specs.Order.{f64_zero, f64_one, clamp_unit, nonneg, ordinary, Unit01}
-use Rattle.float.specs.Option.{some}
 use Rattle.float.proofs.SignLaws.{zero_least}
 use Rattle.float.proofs.NonNegLaws.{cross_le, le_cross, lt_cross}
 use Rattle.float.proofs.UnitLaws.{one_unit, clamped_unit}
@@ -32,7 +32,7 @@ le_not_lt x y p q h = go (lt y x) refl
     go false e = refl
 
 -- ---- an estimate with the bounds 0 and 1
-pub bounded_is : (x : Float) → clamp_to_bounds x (some f64_zero) (some f64_one) ≡ clamp_unit x
+pub bounded_is : (x : Float) → clamp_to_bounds x (Some f64_zero) (Some f64_one) ≡ clamp_unit x
 unfolding clamp_to_bounds lt
 bounded_is x = go (lt x f64_zero) refl
   where
@@ -41,11 +41,11 @@ bounded_is x = go (lt x f64_zero) refl
     go true e = refl
     go false e = ap (λ (t : Bool). cond (lt f64_one (cond t f64_zero x)) f64_one (cond t f64_zero x)) e
 
-pub derived_is : (x : Float) → (derived x (some f64_zero) (some f64_one)).value ≡ clamp_unit x
+pub derived_is : (x : Float) → (derived x (Some f64_zero) (Some f64_one)).value ≡ clamp_unit x
 unfolding derived
 derived_is x = bounded_is x
 
-pub unit_estimate_law : (x : Float) → T (fits binary64 x) → T (ordinary x) → Unit01 (derived x (some f64_zero) (some f64_one)).value
+pub unit_estimate_law : (x : Float) → T (fits binary64 x) → T (ordinary x) → Unit01 (derived x (Some f64_zero) (Some f64_one)).value
 unit_estimate_law x h o = rw (derived_is x) (clamped_unit x h o)
 
 -- ---- operations

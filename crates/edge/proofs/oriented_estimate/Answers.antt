@@ -1,8 +1,7 @@
 use mathlib.Core.Path.{sym, ap, ◌∙◌}
+use Rattle.std.specs.Prelude.{Some}
 use Rattle.records.specs.declared.columns.ColumnProfile.{ColumnProfile}
 use Rattle.sheet.specs.Sheet.{sheet_of}
-use Rattle.lookup.specs.Lookup.{Present}
-use Rattle.edge.specs.declared.places.EdgePlaces.{EdgePlaces}
 use Rattle.edge.proofs.EdgeLaws.{oriented_is}
 use Rattle.edge.proofs.OrientedLaws.{found_left, found_right}
 use Rattle.edge.proofs.oriented_estimate.Goals as goal
@@ -12,10 +11,8 @@ returns c = oriented_is _ _ _ _ _ _ _ _ _ _ c.column_profile_at-left.ensures c.c
 
 pub edge_inputs-x-requires : goal.edge_inputs-x-requires
 edge_inputs-x-requires c =
-    let a = c.args in
-    let left = ap (λ (p : EdgePlaces). p.left_in_left) c.requires.0 in
-    let right = ap (λ (p : EdgePlaces). p.right_in_right) c.requires.0 in (
-      found_left a.s.now a.q a.edge.left a.edge.right a.places.left_in_left a.places.right_in_right left right c.requires.1 ∙ ap (λ (p : ColumnProfile). Present p (sheet_of a.s.now a.q).left_rows.value) (sym c.column_profile_at-left.ensures),
-      found_right a.s.now a.q a.edge.left a.edge.right a.places.left_in_left a.places.right_in_right left right c.requires.1 ∙ ap (λ (p : ColumnProfile). Present p (sheet_of a.s.now a.q).right_rows.value) (sym c.column_profile_at-right.ensures),
-      ap (λ (p : EdgePlaces). p.right_in_left) c.requires.0,
+    let a = c.args in (
+      sym (found_left a.s.now a.q a.edge.left (Some a.left_at) c.requires.0) ∙ ap (λ (p : ColumnProfile). Some (p, (sheet_of a.s.now a.q).left_rows.value)) (sym c.column_profile_at-left.ensures),
+      sym (found_right a.s.now a.q a.edge.right (Some a.right_at) c.requires.1) ∙ ap (λ (p : ColumnProfile). Some (p, (sheet_of a.s.now a.q).right_rows.value)) (sym c.column_profile_at-right.ensures),
+      c.requires.2,
     )

@@ -13,16 +13,8 @@ use Rattle.join.proofs.join_selectivity_from_conjuncts.Given as goal
 
 abbrev pub invariant-loop-i : goal.invariant-loop-i
 invariant-loop-i l =
-    (l.n ≤ conjunct_limit) × (length l.keys ≡ conjunct_limit) × (length l.kinds ≡ conjunct_limit) × (l.i ≤ l.n) × KeysHeld (edge_at l.profiles l.marks (record { pairs = l.held; count = l.n })) l.keys l.kinds l.i × (length l.held ≡ conjunct_limit)
-
-abbrev pub decreases-loop-i : goal.decreases-loop-i
-decreases-loop-i l =
-    l.n - l.i
+    (l.n ≤ conjunct_limit) × (length l.keys ≡ conjunct_limit) × (l.i ≤ l.n) × KeysHeld (edge_at l.profiles l.marks (record { pairs = l.held; count = l.n })) l.keys l.i × (length l.held ≡ conjunct_limit)
 
 abbrev pub invariant-loop-j : goal.invariant-loop-j
 invariant-loop-j l =
     (l.n ≤ conjunct_limit) × (length l.order ≡ conjunct_limit) × (length l.coverages ≡ length l.initial.coverages) × (length l.roots ≡ column_limit) × (length l.distincts ≡ column_limit) × Rooted l.roots × FoldRest (sheet_of l.s l.q) (edge_at l.profiles l.marks (record { pairs = l.held; count = l.n })) l.order (with_edges (sheet_of l.s l.q) (folded (sheet_of l.s l.q) l.profiles no_equality []) (map (edge_at l.profiles l.marks (record { pairs = l.held; count = l.n })) (drop (conjunct_limit - l.n) l.order))) (record { roots = l.roots; distincts = l.distincts }) l.totals l.initial.coverages l.coverages l.j × Placed l.order × (length l.held ≡ conjunct_limit)
-
-abbrev pub decreases-loop-j : goal.decreases-loop-j
-decreases-loop-j l =
-    conjunct_limit - l.j

@@ -23,6 +23,6 @@ pub returns-then-f-2 : goal.returns-then-f-2
 unfolding power of_bits
 returns-then-f-2 c = simp (c.if-x.false, c.if-f.false, c.if-f-2.true) c.finite_power.ensures
 
-pub returns : goal.returns
+pub returns-else-f-2 : goal.returns-else-f-2
 unfolding power of_bits div
-returns c = simp (c.if-x.false, c.if-f.false, c.if-f-2.false)
+returns-else-f-2 c = simp (c.if-x.false, c.if-f.false, c.if-f-2.false)

@@ -1,9 +1,6 @@
-use Rattle.std.proofs.Common.{◌≡◌, ◌-◌, ◌/◌, ◌^◌, ◌≤◌}
+use Rattle.std.proofs.Common.{◌≡◌, ◌-◌, ◌/◌, ◌^◌}
 use Rattle.power.specs.Power.{whole_power}
 use Rattle.power.proofs.whole_power.Given as goal
 
 abbrev pub invariant-loop-i : goal.invariant-loop-i
-invariant-loop-i l = (l.p ≡ whole_power (l.initial.i - l.i) l.x (l.n / 2 ^ l.i)) × (l.i ≤ l.initial.i) × (l.initial.i ≤ 63)
-
-abbrev pub decreases-loop-i : goal.decreases-loop-i
-decreases-loop-i l = l.i
+invariant-loop-i l = l.p ≡ whole_power (l.initial.i - l.i) l.x (l.n / 2 ^ l.i)

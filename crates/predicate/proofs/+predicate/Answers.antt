@@ -1,4 +1,4 @@
-use Rattle.std.proofs.Common.{◌≡◌, ◌-◌, ◌∙◌, arith}
+use Rattle.std.proofs.Common.{◌≡◌, ◌∙◌, arith}
 use Rattle.std.specs.Float.{binary64}
 use Rattle.std.specs.Float.Ieee.{mul, of_bits}
 use Rattle.sheet.specs.Sheet.{sheet_of}
@@ -11,18 +11,18 @@ use Rattle.predicate.proofs.+predicate.Goals.{operand_product-then-o-limit, oper
 
 pub filter_selectivity_for_predicate-returns-in-Leaf : goal.filter_selectivity_for_predicate-returns-in-Leaf
 filter_selectivity_for_predicate-returns-in-Leaf t c =
-    of_leaf (sheet_of c.args.s.now c.args.q) c.args.e _ c.leaf_or_run-x.ensures _ c.in-Leaf.is
+    of_leaf (sheet_of c.args.s.now c.args.q) c.args.e _ c.leaf_or_run.ensures _ c.in-Leaf.is
 
 pub filter_selectivity_for_predicate-returns-in-Run : goal.filter_selectivity_for_predicate-returns-in-Run
 filter_selectivity_for_predicate-returns-in-Run t c =
-    c.nary_estimate.ensures ∙ of_run_law (sheet_of c.args.s.now c.args.q) c.args.e _ c.leaf_or_run-x.ensures _ _ _ _ c.in-Run.is c.operand_product.ensures
+    c.nary_estimate.ensures ∙ of_run_law (sheet_of c.args.s.now c.args.q) c.args.e _ c.leaf_or_run.ensures _ _ _ _ c.in-Run.is c.operand_product.ensures
 
 -- ---- the product over its operands
 
 pub operand_product-loop-i-init : goal.operand_product-loop-i-init
 unfolding of_bits
 operand_product-loop-i-init t c =
-    (c.run_end-end.ensures, omega arith, omega arith, product_first _ _ _ _ _ _ _ c.run_end-end.ensures)
+    product_first _ _ _ _ _ _ _ c.run_end-i-end.ensures
 
 pub operand_product-loop-i-preserved : goal.operand_product-loop-i-preserved
 unfolding of_bits
@@ -37,8 +37,8 @@ operand_product-loop-i-preserved t c =
       | operand_product-in-And w ↦ rw w.in-And.is w.product-is
       | operand_product-in-Or w ↦ rw w.in-Or.is w.product-is
     ] in
-    (c.loop-i.invariant.0, c.loop-i.invariant.1, omega arith, product_next c.args.s.now c.args.q _ c.args.first c.args.count _ _ _ _ _ _ _ c.loop-i-test.true c.operand_in-o.ensures operand next c.loop-i.invariant.3)
+    product_next c.args.s.now c.args.q _ c.args.first c.args.count _ _ _ _ _ _ _ c.loop-i-test.true c.operand_in-o.ensures operand next c.loop-i.invariant
 
 pub operand_product-returns : goal.operand_product-returns
 operand_product-returns t c =
-    product_all c.args.s.now c.args.q _ c.args.first c.args.count _ _ _ _ (omega arith) c.loop-i.invariant.3
+    product_all c.args.s.now c.args.q _ c.args.first c.args.count _ _ _ _ (omega arith) c.loop-i.invariant

@@ -1,4 +1,4 @@
-use Rattle.std.proofs.Common.{◌+◌, ◌-◌, ◌*◌, ◌≤◌, ◌≡◌, length, min}
+use Rattle.std.proofs.Common.{◌+◌, ◌*◌}
 use Rattle.sheet.specs.Sheet.{sheet_of}
 use Rattle.predicate.proofs.PredicateLaws.{estimates_below, ProductRest}
 use Rattle.predicate.proofs.+predicate.Given as goal
@@ -11,11 +11,4 @@ abbrev pub decreases-operand_product : goal.decreases-operand_product
 decreases-operand_product l = 2 * l.limit
 
 abbrev pub invariant-operand_product-loop-i : goal.invariant-operand_product-loop-i
-invariant-operand_product-loop-i l =
-    (l.end ≡ min (l.first + l.count) (length (sheet_of l.s l.q).operands))
-    × (l.end ≤ 131070)
-    × (l.i ≤ 131070)
-    × ProductRest l.s l.q l.op l.first l.count (estimates_below (sheet_of l.s l.q) l.limit) l.product l.i l.end
-
-abbrev pub decreases-operand_product-loop-i : goal.decreases-operand_product-loop-i
-decreases-operand_product-loop-i l = l.end - l.i
+invariant-operand_product-loop-i l = ProductRest l.s l.q l.op l.first l.count (estimates_below (sheet_of l.s l.q) l.limit) l.product l.i l.i-end

@@ -1,47 +1,32 @@
+use Rattle.std.proofs.Common.{◌≡◌, refl}
+use lib.Ieee.{Float}
+use Rattle.records.specs.declared.expressions.BinaryOp.{BinaryOp}
+use Rattle.records.specs.declared.expressions.BinaryOp.TheVariants.{Eq, IsNotDistinctFrom, NotEq, Lt, LtEq, Gt, GtEq, Add, Subtract, Multiply, Divide}
+use mathlib.Core.Logic.{inl, inr}
 use Rattle.range.specs.Range.{selected}
-use mathlib.Core.Path.{refl}
 use Rattle.range.proofs.selected.Goals as goal
 
-pub returns-in-Eq : goal.returns-in-Eq
+no_range : (op : BinaryOp) (fallback min max value : Float) → (op ≡ Lt → ⊥) → (op ≡ LtEq → ⊥) → (op ≡ Gt → ⊥) → (op ≡ GtEq → ⊥) → fallback ≡ selected op fallback min max value
 unfolding selected
-returns-in-Eq c = rw c.in-Eq.is refl
-
-pub returns-in-IsNotDistinctFrom : goal.returns-in-IsNotDistinctFrom
-unfolding selected
-returns-in-IsNotDistinctFrom c = rw c.in-IsNotDistinctFrom.is refl
-
-pub returns-in-NotEq : goal.returns-in-NotEq
-unfolding selected
-returns-in-NotEq c = rw c.in-NotEq.is refl
+no_range Lt fallback min max value a b c d = absurd (a refl)
+no_range LtEq fallback min max value a b c d = absurd (b refl)
+no_range Gt fallback min max value a b c d = absurd (c refl)
+no_range GtEq fallback min max value a b c d = absurd (d refl)
+no_range Eq fallback min max value a b c d = refl
+no_range IsNotDistinctFrom fallback min max value a b c d = refl
+no_range NotEq fallback min max value a b c d = refl
+no_range Add fallback min max value a b c d = refl
+no_range Subtract fallback min max value a b c d = refl
+no_range Multiply fallback min max value a b c d = refl
+no_range Divide fallback min max value a b c d = refl
 
 pub returns-in-Lt : goal.returns-in-Lt
 unfolding selected
-returns-in-Lt c = rw (c.part_below.ensures, c.in-Lt.is) refl
-
-pub returns-in-LtEq : goal.returns-in-LtEq
-unfolding selected
-returns-in-LtEq c = rw (c.part_below-in-LtEq.ensures, c.in-LtEq.is) refl
+returns-in-Lt c = elim c.in-Lt.is [ inl e ↦ rw (c.part_below.ensures, e) refl | inr e ↦ rw (c.part_below.ensures, e) refl ]
 
 pub returns-in-Gt : goal.returns-in-Gt
 unfolding selected
-returns-in-Gt c = rw (c.part_above.ensures, c.in-Gt.is) refl
+returns-in-Gt c = elim c.in-Gt.is [ inl e ↦ rw (c.part_above.ensures, e) refl | inr e ↦ rw (c.part_above.ensures, e) refl ]
 
-pub returns-in-GtEq : goal.returns-in-GtEq
-unfolding selected
-returns-in-GtEq c = rw (c.part_above-in-GtEq.ensures, c.in-GtEq.is) refl
-
-pub returns-in-Add : goal.returns-in-Add
-unfolding selected
-returns-in-Add c = rw c.in-Add.is refl
-
-pub returns-in-Subtract : goal.returns-in-Subtract
-unfolding selected
-returns-in-Subtract c = rw c.in-Subtract.is refl
-
-pub returns-in-Multiply : goal.returns-in-Multiply
-unfolding selected
-returns-in-Multiply c = rw c.in-Multiply.is refl
-
-pub returns-in-Divide : goal.returns-in-Divide
-unfolding selected
-returns-in-Divide c = rw c.in-Divide.is refl
+pub returns-in_default : goal.returns-in_default
+returns-in_default c = no_range _ _ _ _ _ c.in_default.not-Lt c.in_default.not-LtEq c.in_default.not-Gt c.in_default.not-GtEq

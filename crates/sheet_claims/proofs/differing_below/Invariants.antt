@@ -5,6 +5,3 @@ use Rattle.sheet_claims.proofs.differing_below.Given as goal
 
 abbrev pub invariant-loop-i : goal.invariant-loop-i
 invariant-loop-i l = (l.i ≤ l.n) × (l.differ + l.i ≤ l.n) × (l.differ + differing_below l.s l.number l.i ≡ differing_below l.s l.number l.n)
-
-abbrev pub decreases-loop-i : goal.decreases-loop-i
-decreases-loop-i l = l.i

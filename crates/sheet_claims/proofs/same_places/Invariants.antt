@@ -1,5 +1,5 @@
 use lib.ListN.{length, drop}
-use Prim.Native.Nat.{◌+◌, ◌-◌, ◌*◌, ◌≤◌}
+use Prim.Native.Nat.{◌+◌, ◌*◌}
 use mathlib.Core.Path.{◌≡◌}
 use Rattle.layout.specs.Places.{number_size}
 use Rattle.sheet.specs.Order.{section_count}
@@ -7,7 +7,4 @@ use Rattle.sheet_claims.specs.Claims.{same_places}
 use Rattle.sheet_claims.proofs.same_places.Given as goal
 
 abbrev pub invariant-loop-i : goal.invariant-loop-i
-invariant-loop-i l = (l.i ≤ section_count) × (length l.places ≡ section_count) × (same_places (drop l.i l.places) l.a (l.at + number_size * l.i) ≡ same_places l.places l.a l.at)
-
-abbrev pub decreases-loop-i : goal.decreases-loop-i
-decreases-loop-i l = section_count - l.i
+invariant-loop-i l = (length l.places ≡ section_count) × (same_places (drop l.i l.places) l.a (l.at + number_size * l.i) ≡ same_places l.places l.a l.at)

@@ -1,15 +1,12 @@
-use Rattle.std.proofs.Common.{refl}
+use Rattle.std.proofs.Common.{◌∙◌}
 use Rattle.sketch_join.specs.SketchJoin.{sketch_left_match_probability}
+use Rattle.sketch_join.proofs.NumberLaws.{numbered_found, numbered_lacking, match_empty}
 use Rattle.sketch_join.proofs.sketch_left_match_probability.Goals as goal
 
-pub returns-in-Absent : goal.returns-in-Absent
+pub returns : goal.returns
 unfolding sketch_left_match_probability
-returns-in-Absent c = rw (c.none.ensures, c.in-Absent.is) refl
+returns c = c.sketches_match.ensures ∙ numbered_found _ _ (match_empty c.args.left c.args.left_rows c.args.intersection_distinct c.args.left_distinct) _ _ _ _ _ _ c.in_ok-left_at.ensures.places
 
-pub returns-in-Absent-right_sketch : goal.returns-in-Absent-right_sketch
+pub returns-in_err-left_at : goal.returns-in_err-left_at
 unfolding sketch_left_match_probability
-returns-in-Absent-right_sketch c = rw (c.none-in-Absent-right_sketch.ensures, c.in-Present.is, c.in-Absent-right_sketch.is) refl
-
-pub returns-in-Present-right_sketch : goal.returns-in-Present-right_sketch
-unfolding sketch_left_match_probability
-returns-in-Present-right_sketch c = rw (c.match_by_number.ensures, c.in-Present.is, c.in-Present-right_sketch.is) refl
+returns-in_err-left_at c = c.from_residual.ensures ∙ numbered_lacking _ _ (match_empty c.args.left c.args.left_rows c.args.intersection_distinct c.args.left_distinct) _ _ _ _ c.in_err-left_at.ensures.places

@@ -1,8 +1,9 @@
 use Prim.Native.Nat.{ℕ, ◌+◌}
-use mathlib.Core.Path.{◌≡◌, refl, sym}
+use mathlib.Core.Path.{◌≡◌, refl}
 use mathlib.Core.Bool.{◌&&◌}
 use mathlib.Core.List.{List}
 use native.Mathlib.Nat.{add_assoc}
+use native.Mathlib.Omega.{arith}
 use lib.Dec.{eqb}
 use Rattle.le.specs.Fields.{byte_at, field_at}
 use Rattle.le.proofs.FieldLaws.{Bytes, u8_sum, field_same}
@@ -14,7 +15,8 @@ three_parts : (s : List ℕ) (a b : ℕ) → Bytes s
 three_parts s a b h =
     rw (field_same 8 3 s (a + 8) (b + 8) h, add_assoc a 8 8, add_assoc b 8 8, field_same 2 1 s (a + 16) (b + 16) h, add_assoc a 16 2, add_assoc b 16 2, u8_sum s (a + 18), u8_sum s (b + 18)) refl
 
-pub returns : goal.returns
-returns c =
-    rw (c.both-2.ensures, c.both.ensures, c.byte_at-2.ensures, c.byte_at.ensures, c.u16_at-2.ensures, c.u16_at.ensures, c.u64_at-2.ensures, c.u64_at.ensures)
-    (sym (three_parts c.args.s.now c.args.a c.args.b (λ k. (c.type_inv.s k).fits)))
+pub returns-then-u16_at : goal.returns-then-u16_at
+returns-then-u16_at c = let parts = three_parts c.args.s.now c.args.a c.args.b (λ k. (c.type_inv.s k).fits) in grind arith
+
+pub returns-else-u16_at : goal.returns-else-u16_at
+returns-else-u16_at c = let parts = three_parts c.args.s.now c.args.a c.args.b (λ k. (c.type_inv.s k).fits) in grind arith

@@ -1,5 +1,6 @@
+use native.Mathlib.Omega.{arith}
 use Rattle.class_state.proofs.ApartLaws.{own_all}
 use Rattle.class_state.proofs.apart.own_roots.Goals as goal
 
 pub returns : goal.returns
-returns c = own_all c.loop-i.out c.loop-i.i c.loop-i.invariant.1 c.loop-i-test.false c.loop-i.invariant.2
+returns c = own_all c.loop-i.out c.loop-i.i c.loop-i.invariant.0 (omega arith) c.loop-i.invariant.1

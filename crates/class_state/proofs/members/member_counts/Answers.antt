@@ -7,13 +7,13 @@ use Rattle.class_state.proofs.CountLaws.{Counted, counted_first, counted_next, c
 use Rattle.class_state.proofs.members.member_counts.Goals as goal
 
 pub loop-column-init : goal.loop-column-init
-loop-column-init c = (omega arith, refl, counted_first _)
+loop-column-init c = (refl, counted_first _)
 
 pub raise-requires : goal.raise-requires
-raise-requires c = counted_room c.args.roots.now c.loop-column.counts c.loop-column.column c.loop-column.invariant.1 c.loop-column.invariant.2 _
+raise-requires c = counted_room c.args.roots.now c.loop-column.counts c.loop-column.column c.loop-column.invariant.0 c.loop-column.invariant.1 _
 
 pub loop-column-preserved : goal.loop-column-preserved
-loop-column-preserved c = (omega arith, search rules, subst (λ (o : List ℕ). Counted c.args.roots.now o (c.loop-column.column + 1)) (sym c.raise.ensures) (counted_next c.args.roots.now c.loop-column.counts c.loop-column.column _ c.loop-column.invariant.1 c.loop-column-test.true c.root_of.ensures c.loop-column.invariant.2))
+loop-column-preserved c = (search rules, subst (λ (o : List ℕ). Counted c.args.roots.now o (c.loop-column.column + 1)) (sym c.raise.ensures) (counted_next c.args.roots.now c.loop-column.counts c.loop-column.column _ c.loop-column.invariant.0 c.loop-column-test.true c.root_of.ensures c.loop-column.invariant.1))
 
 pub returns : goal.returns
-returns c = counted_all _ c.loop-column.counts c.loop-column.column c.loop-column.invariant.1 c.loop-column-test.false c.loop-column.invariant.2
+returns c = counted_all _ c.loop-column.counts c.loop-column.column c.loop-column.invariant.0 (omega arith) c.loop-column.invariant.1

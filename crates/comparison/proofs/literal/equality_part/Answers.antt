@@ -1,5 +1,5 @@
-use Rattle.sheet.specs.Sheet.{sheet_of}
 use mathlib.Core.Path.{refl}
+use Rattle.sheet.specs.Sheet.{sheet_of}
 use Rattle.comparison.proofs.literal.equality_part.Goals as goal
 
 pub returns : goal.returns

@@ -1,40 +1,25 @@
+use Rattle.std.proofs.Common.{◌≡◌, ℕ, zero, suc, ◌<◌, ◌≤◌, true, false, List, refl, arith, rules, ne_eqb}
+use Rattle.le.specs.Fields.{byte_at}
+use Rattle.scalar.specs.Types.{is_null}
 use Rattle.scalar_bytes.specs.Reading.{scalar_at}
-use mathlib.Core.Path.{refl, sym, ◌∙◌}
-use borrow.Author.Rules.{rules}
 use Rattle.comparison.proofs.literal.is_null_at.Goals as goal
 
-pub returns-in-1 : goal.returns-in-1
+low_tag : (s : List ℕ) (at n : ℕ) → byte_at s at ≡ n → 1 ≤ n → n ≤ 6 → is_null (scalar_at s at) ≡ false
 unfolding scalar_at
-returns-in-1 c = rw (sym c.byte_at-tag.ensures ∙ c.in-1.is) refl
+low_tag s at zero e h k = absurd (omega arith)
+low_tag s at (suc zero) e h k = rw e refl
+low_tag s at (suc (suc zero)) e h k = rw e refl
+low_tag s at (suc (suc (suc zero))) e h k = rw e refl
+low_tag s at (suc (suc (suc (suc zero)))) e h k = rw e refl
+low_tag s at (suc (suc (suc (suc (suc zero))))) e h k = rw e refl
+low_tag s at (suc (suc (suc (suc (suc (suc zero)))))) e h k = rw e refl
+low_tag s at (suc (suc (suc (suc (suc (suc (suc n))))))) e h k = absurd (omega arith)
 
-pub returns-in-2 : goal.returns-in-2
+no_tag : (s : List ℕ) (at n : ℕ) → byte_at s at ≡ n → (1 ≤ n → 6 < n) → (n ≡ 8 → ⊥) → (n ≡ 9 → ⊥) → is_null (scalar_at s at) ≡ true
 unfolding scalar_at
-returns-in-2 c = rw (sym c.byte_at-tag.ensures ∙ c.in-2.is) refl
+no_tag s at n e h a b =
+    rw (e, ne_eqb n 1 (λ f. omega (arith, h (omega arith))), ne_eqb n 2 (λ f. omega (arith, h (omega arith))), ne_eqb n 3 (λ f. omega (arith, h (omega arith))), ne_eqb n 4 (λ f. omega (arith, h (omega arith))), ne_eqb n 5 (λ f. omega (arith, h (omega arith))), ne_eqb n 6 (λ f. omega (arith, h (omega arith))), ne_eqb n 8 a, ne_eqb n 9 b) refl
 
-pub returns-in-3 : goal.returns-in-3
+pub returns : goal.returns
 unfolding scalar_at
-returns-in-3 c = rw (sym c.byte_at-tag.ensures ∙ c.in-3.is) refl
-
-pub returns-in-4 : goal.returns-in-4
-unfolding scalar_at
-returns-in-4 c = rw (sym c.byte_at-tag.ensures ∙ c.in-4.is) refl
-
-pub returns-in-5 : goal.returns-in-5
-unfolding scalar_at
-returns-in-5 c = rw (sym c.byte_at-tag.ensures ∙ c.in-5.is) refl
-
-pub returns-in-6 : goal.returns-in-6
-unfolding scalar_at
-returns-in-6 c = rw (sym c.byte_at-tag.ensures ∙ c.in-6.is) refl
-
-pub returns-in-8 : goal.returns-in-8
-unfolding scalar_at
-returns-in-8 c = rw (sym c.byte_at-tag.ensures ∙ c.in-8.is) refl
-
-pub returns-in-9 : goal.returns-in-9
-unfolding scalar_at
-returns-in-9 c = rw (sym c.byte_at-tag.ensures ∙ c.in-9.is) refl
-
-pub returns-in_default : goal.returns-in_default
-unfolding scalar_at
-returns-in_default c = search rules
+returns c = search (rules, low_tag c.args.s.now c.args.at _ refl, no_tag c.args.s.now c.args.at _ refl)

@@ -9,4 +9,4 @@ returns-then-is_null_at c = rw (c.exact.ensures, ← c.is_null_at.ensures, c.if-
 
 pub returns : goal.returns
 unfolding profile_selectivity
-returns c = rw (c.unit_estimate.ensures, c.comparison_value.ensures, c.non_null_fraction-non_null.ensures, c.frequency_at.ensures, ← c.is_null_at.ensures, c.if-is_null_at.false) refl
+returns c = rw (c.unit_estimate.ensures, c.comparison_value.ensures, c.non_null_fraction.ensures, c.frequency_at.ensures, ← c.is_null_at.ensures, c.if-is_null_at.false) refl

@@ -1,18 +1,21 @@
-use mathlib.Core.Path.{refl, ◌∙◌}
+use mathlib.Core.Path.{refl, sym, ap, ◌∙◌}
+use mathlib.Core.Bool.{Bool, ◌||◌}
 use native.Mathlib.Omega.{arith}
-use borrow.Author.Rules.{rules}
-use Rattle.equality_pairs.proofs.PairLaws.{pair_read}
-use Rattle.equality_pairs.proofs.NonNullLaws.{pass_next, pass_end, extends_next, extends_end}
+use Rattle.equality_pairs.proofs.NonNullLaws.{pass_next, pass_end, extends_first, extends_next, extends_end}
+use Rattle.equality_pairs.proofs.non_null.pass.Goals.{then-extend, else-extend}
 use Rattle.equality_pairs.proofs.non_null.pass.Goals as goal
 
-pub loop-i-preserved : goal.loop-i-preserved
-loop-i-preserved c =
-    let read = pair_read c.args.pairs c.args.pairs.pairs c.loop-i.i _ refl (omega arith) in
-    let p = c.extend-changed.ensures in
-    (c.loop-i.invariant.0, c.loop-i.invariant.1, search rules, pass_next c.args.pairs c.loop-i.marks c.loop-i.i _ _ c.loop-i-test.true read p.marks_after ∙ c.loop-i.invariant.3, extends_next c.args.pairs c.loop-i.marks c.loop-i.i _ _ c.loop-i-test.true read c.loop-i.changed _ p.marks_after p.value ∙ c.loop-i.invariant.4)
+pub loop-pair-init : goal.loop-pair-init
+loop-pair-init c = (refl, extends_first _)
+
+pub loop-pair-preserved : goal.loop-pair-preserved
+loop-pair-preserved c =
+    let l = c.loop-pair in
+    let p = c.extend.ensures in
+    (pass_next c.args.pairs.now l.marks l.pair-index _ _ _ c.loop-pair-test.true refl p.marks_after ∙ l.invariant.0, extends_next c.args.pairs.now l.marks l.pair-index _ _ _ c.loop-pair-test.true refl l.changed c.if-extend.changed p.marks_after (elim c.if-extend.branch [ then-extend w ↦ w.changed-is ∙ w.if-extend.true ∙ ap (λ (b : Bool). b || l.changed) (sym w.if-extend.true ∙ p.value) | else-extend w ↦ w.changed-is ∙ ap (λ (b : Bool). b || l.changed) (sym w.if-extend.false ∙ p.value) ]) ∙ l.invariant.1)
 
 pub returns-clause-marks_after : goal.returns-clause-marks_after
-returns-clause-marks_after c = pass_end c.args.pairs c.loop-i.marks c.loop-i.i c.loop-i-test.false ∙ c.loop-i.invariant.3
+returns-clause-marks_after c = pass_end c.args.pairs.now c.loop-pair.marks c.loop-pair.pair-index (omega arith) ∙ c.loop-pair.invariant.0
 
 pub returns-clause-value : goal.returns-clause-value
-returns-clause-value c = extends_end c.args.pairs c.loop-i.marks c.loop-i.i c.loop-i.changed c.loop-i-test.false ∙ c.loop-i.invariant.4
+returns-clause-value c = extends_end c.args.pairs.now c.loop-pair.marks c.loop-pair.pair-index c.loop-pair.changed (omega arith) ∙ c.loop-pair.invariant.1

@@ -1,15 +1,8 @@
-use Prim.Native.Nat.{◌≤◌, ◌-◌}
 use mathlib.Core.Path.{◌≡◌}
 use mathlib.Core.Bool.{◌||◌}
-use lib.ListN.{length}
-use Rattle.layout.specs.Places.{conjunct_limit}
-use Rattle.equality_pairs.specs.Pairs.{pairs_in}
+use lib.ListN.{drop}
 use Rattle.equality_pairs.specs.NonNull.{pass, pass_extends}
-use Rattle.equality_pairs.proofs.NonNullLaws.{rest_from}
 use Rattle.equality_pairs.proofs.non_null.pass.Given as goal
 
-abbrev pub invariant-loop-i : goal.invariant-loop-i
-invariant-loop-i l = (l.n ≤ conjunct_limit) × (length l.held ≡ conjunct_limit) × (length l.marks ≡ length l.initial.marks) × (pass l.marks (rest_from (record { pairs = l.held; count = l.n }) l.i) ≡ pass l.initial.marks (pairs_in (record { pairs = l.held; count = l.n }))) × ((pass_extends l.marks (rest_from (record { pairs = l.held; count = l.n }) l.i) || l.changed) ≡ pass_extends l.initial.marks (pairs_in (record { pairs = l.held; count = l.n })))
-
-abbrev pub decreases-loop-i : goal.decreases-loop-i
-decreases-loop-i l = l.n - l.i
+abbrev pub invariant-loop-pair : goal.invariant-loop-pair
+invariant-loop-pair l = (pass l.marks (drop l.pair-index l.pairs) ≡ pass l.initial.marks l.pairs) × ((pass_extends l.marks (drop l.pair-index l.pairs) || l.changed) ≡ pass_extends l.initial.marks l.pairs)

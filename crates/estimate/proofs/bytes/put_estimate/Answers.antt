@@ -16,4 +16,4 @@ returns c =
     let x4 = onto_part _ _ _ _ _ 10 _ refl refl (omega arith) x3 c.put_u64.ensures in
     onto_part _ _ _ _ _ 18 _ refl refl (omega arith) x4 c.put_u64-2.ensures
     ∙ ap (λ (bs : List ℕ). onto bs c.args.out.now)
-    (fields_joined c.args.e _ _ _ _ c.source_number.ensures c.flags_number.ensures (c.option_bits.ensures ∙ ap option_bits c.lower_bound.ensures) (c.option_bits-2.ensures ∙ ap option_bits c.upper_bound.ensures))
+    (fields_joined c.args.e _ _ _ _ c.from.ensures c.flags_number.ensures (c.option_bits.ensures ∙ ap option_bits c.lower_bound.ensures) (c.option_bits-2.ensures ∙ ap option_bits c.upper_bound.ensures))

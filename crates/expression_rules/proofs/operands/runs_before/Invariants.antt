@@ -1,10 +1,7 @@
 use mathlib.Core.Path.{◌≡◌}
-use Prim.Native.Nat.{◌≤◌, ◌-◌, ◌*◌}
+use Prim.Native.Nat.{◌≤◌, ◌*◌}
 use Rattle.expression_rules.specs.Operands.{runs_before}
 use Rattle.expression_rules.proofs.operands.runs_before.Given as goal
 
 abbrev pub invariant-loop-e : goal.invariant-loop-e
-invariant-loop-e l = (l.e ≤ l.n) × ((l.sum ≡ runs_before l.s l.expressions l.e) × (l.sum ≤ 65535 * l.e))
-
-abbrev pub decreases-loop-e : goal.decreases-loop-e
-decreases-loop-e l = l.n - l.e
+invariant-loop-e l = (l.sum ≡ runs_before l.s l.expressions l.e) × (l.sum ≤ 65535 * l.e)

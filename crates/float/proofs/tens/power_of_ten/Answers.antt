@@ -1,16 +1,14 @@
-use Rattle.std.proofs.Common.{◌≡◌, ℕ, ◌^◌, ◌≤◌, min, pos, sym, refl, ap, arith, rules}
+use Rattle.std.proofs.Common.{◌≡◌, ℕ, ◌<◌, ◌^◌, min, pos, refl, ap, ◌∙◌, arith}
 use lib.Ieee.{binary64, of_int, of_bits}
 use Rattle.float.specs.Tens.{power_of_ten}
 use Rattle.float.proofs.TableLaws.{table_at}
 use Rattle.float.proofs.tens.power_of_ten.Goals as goal
 
-largest : (k : ℕ) → 22 ≤ k → min k 22 ≡ 22
-largest k h = omega arith
-
-pub returns-then-k-lt22 : goal.returns-then-k-lt22
-unfolding power_of_ten of_bits
-returns-then-k-lt22 c = table_at _ power_of_ten 23 refl c.args.k _ (search rules)
+placed : (k m n : ℕ) → m ≡ min k 22 → n ≡ m → (n < 23) × (min n 22 ≡ min k 22)
+placed k m n e f = (omega arith, omega arith)
 
 pub returns : goal.returns
 unfolding power_of_ten of_bits
-returns c = ap (λ (n : ℕ). of_int binary64 (pos (10 ^ n))) (sym (largest c.args.k c.if-k-lt22.false))
+returns c =
+    let at = placed c.args.k _ _ c.min.ensures c.from.ensures in
+    table_at _ power_of_ten 23 refl c.from.result _ at.0 ∙ ap (λ (n : ℕ). of_int binary64 (pos (10 ^ n))) at.1

@@ -1,16 +1,16 @@
-use mathlib.Core.Path.{refl}
+use Rattle.std.proofs.Common.{rules}
 use lib.Ieee.{of_bits}
 use Rattle.interval.specs.Fraction.{continuous}
 use Rattle.interval.proofs.fraction.continuous.Goals as goal
 
-pub returns-then-either : goal.returns-then-either
+pub returns-then-not-is_finite : goal.returns-then-not-is_finite
 unfolding continuous of_bits
-returns-then-either c = rw (← c.is_finite.ensures, ← c.either.ensures, c.if-either.true) refl
+returns-then-not-is_finite c = search rules
 
-pub returns-then-width : goal.returns-then-width
+pub returns-then-width-2 : goal.returns-then-width-2
 unfolding continuous of_bits
-returns-then-width c = rw (← c.is_finite.ensures, ← c.either.ensures, c.if-either.false, c.if-width.true) refl
+returns-then-width-2 c = search rules
 
 pub returns : goal.returns
 unfolding continuous of_bits
-returns c = rw (c.clamp_unit.ensures, ← c.is_finite.ensures, ← c.either.ensures, c.if-either.false, c.if-width.false) refl
+returns c = search rules

@@ -1,7 +1,11 @@
-use mathlib.Core.Path.{refl}
+use Rattle.std.proofs.Common.{rules}
 use Rattle.interval.specs.Intersection.{disjoint}
 use Rattle.interval.proofs.intersection.disjoint.Goals as goal
 
-pub returns : goal.returns
+pub returns-then-eq : goal.returns-then-eq
 unfolding disjoint
-returns c = rw (c.either.ensures, c.is_less-2.ensures, c.scalar_order-2.ensures, c.is_less.ensures, c.scalar_order.ensures) refl
+returns-then-eq c = search rules
+
+pub returns-else-eq : goal.returns-else-eq
+unfolding disjoint
+returns-else-eq c = search rules

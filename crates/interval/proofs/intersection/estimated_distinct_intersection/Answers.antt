@@ -1,12 +1,12 @@
-use Rattle.interval.specs.Intersection.{estimated_distinct_intersection}
+use Rattle.std.proofs.Common.{rules}
 use lib.Ieee.{of_bits}
-use mathlib.Core.Path.{refl}
+use Rattle.interval.specs.Intersection.{estimated_distinct_intersection}
 use Rattle.interval.proofs.intersection.estimated_distinct_intersection.Goals as goal
 
-pub returns-then-either : goal.returns-then-either
+pub returns-then-left_distinct : goal.returns-then-left_distinct
 unfolding estimated_distinct_intersection of_bits
-returns-then-either c = rw (c.overlapping.ensures, ← c.either.ensures, c.if-either.true) refl
+returns-then-left_distinct c = search rules
 
 pub returns : goal.returns
 unfolding estimated_distinct_intersection of_bits
-returns c = rw (c.zipped_intersection.ensures, c.zip_bounds-2.ensures, c.zip_bounds.ensures, ← c.either.ensures, c.if-either.false) refl
+returns c = search rules

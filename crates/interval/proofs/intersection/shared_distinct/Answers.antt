@@ -1,15 +1,15 @@
-use mathlib.Core.Path.{refl}
+use Rattle.std.proofs.Common.{rules}
 use Rattle.interval.specs.Intersection.{shared_distinct}
 use Rattle.interval.proofs.intersection.shared_distinct.Goals as goal
 
-pub returns-in-NoFraction : goal.returns-in-NoFraction
+pub returns-in_default : goal.returns-in_default
 unfolding shared_distinct
-returns-in-NoFraction c = rw (c.f64_min-smaller.ensures, c.in-NoFraction.is) refl
+returns-in_default c = search rules
 
-pub returns-in-NoFraction-right : goal.returns-in-NoFraction-right
+pub returns-in_default-2 : goal.returns-in_default-2
 unfolding shared_distinct
-returns-in-NoFraction-right c = rw (c.f64_min-smaller.ensures, c.in-Fraction.is, c.in-NoFraction-right.is) refl
+returns-in_default-2 c = search rules
 
-pub returns-in-Fraction-right : goal.returns-in-Fraction-right
+pub returns : goal.returns
 unfolding shared_distinct
-returns-in-Fraction-right c = rw (c.at_least_point.ensures, c.f64_min.ensures, c.f64_min-parts.ensures, c.f64_min-smaller.ensures, c.in-Fraction.is, c.in-Fraction-right.is) refl
+returns c = search rules

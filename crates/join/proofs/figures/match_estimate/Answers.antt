@@ -5,4 +5,4 @@ use Rattle.join.proofs.figures.match_estimate.Goals as goal
 
 pub returns : goal.returns
 unfolding match_estimate of_bits
-returns c = rw (c.derived.ensures, c.some-2.ensures, c.f64_max.ensures, c.some.ensures) refl
+returns c = rw (c.derived.ensures, c.f64_max.ensures) refl

@@ -1,4 +1,3 @@
-use Prim.Native.Nat.{◌≤◌}
 use mathlib.Core.Path.{◌≡◌}
 use lib.ListN.{length}
 use Rattle.le.specs.Fields.{u16_at}
@@ -7,7 +6,4 @@ use Rattle.lookup.proofs.NotedLaws.{Noted}
 use Rattle.lookup.proofs.places.column_places.Given as goal
 
 abbrev pub invariant-loop-i : goal.invariant-loop-i
-invariant-loop-i l = (l.initial.i ≡ u16_at l.s l.start) × (l.initial.i ≤ 65535) × (l.i ≤ l.initial.i) × (length l.places ≡ column_limit) × Noted l.s l.start l.places l.initial.i l.i
-
-abbrev pub decreases-loop-i : goal.decreases-loop-i
-decreases-loop-i l = l.i
+invariant-loop-i l = (length l.places ≡ column_limit) × Noted l.s l.start l.places (u16_at l.s l.start) l.i

@@ -1,28 +1,28 @@
-use Rattle.std.proofs.Common.{arith}
 use mathlib.Core.Path.{◌∙◌}
+use Rattle.lookup.specs.declared.numbers.ExpressionKind.TheVariants.{Literal, Unary, Binary, Nary, Like}
 use Rattle.predicate.proofs.PredicateLaws.{of_kind_law, of_other}
 use Rattle.predicate.proofs.run.leaf_or_run.Goals as goal
 
-pub returns-in-0 : goal.returns-in-0
-returns-in-0 c =
-    rw c.literal_at.ensures (of_kind_law c.args.s.now c.args.q c.args.e _ _ c.expression_kind-kind.ensures c.expression_place-at.ensures.0 0 c.in-0.is)
+pub returns-in-Literal : goal.returns-in-Literal
+returns-in-Literal c =
+    rw c.literal_at.ensures (of_kind_law c.args.s.now c.args.q c.args.e _ _ c.expression_kind.ensures c.expression_place-at.ensures.0 Literal c.in-Literal.is)
 
-pub returns-in-2 : goal.returns-in-2
-returns-in-2 c =
-    rw c.unary_at.ensures (of_kind_law c.args.s.now c.args.q c.args.e _ _ c.expression_kind-kind.ensures c.expression_place-at.ensures.0 2 c.in-2.is)
+pub returns-in-Unary : goal.returns-in-Unary
+returns-in-Unary c =
+    rw c.unary_at.ensures (of_kind_law c.args.s.now c.args.q c.args.e _ _ c.expression_kind.ensures c.expression_place-at.ensures.0 Unary c.in-Unary.is)
 
-pub returns-in-3 : goal.returns-in-3
-returns-in-3 c =
-    rw c.binary_at.ensures (of_kind_law c.args.s.now c.args.q c.args.e _ _ c.expression_kind-kind.ensures c.expression_place-at.ensures.0 3 c.in-3.is)
+pub returns-in-Binary : goal.returns-in-Binary
+returns-in-Binary c =
+    rw c.binary_at.ensures (of_kind_law c.args.s.now c.args.q c.args.e _ _ c.expression_kind.ensures c.expression_place-at.ensures.0 Binary c.in-Binary.is)
 
-pub returns-in-4 : goal.returns-in-4
-returns-in-4 c =
-    c.run_at.ensures ∙ of_kind_law c.args.s.now c.args.q c.args.e _ _ c.expression_kind-kind.ensures c.expression_place-at.ensures.0 4 c.in-4.is
+pub returns-in-Nary : goal.returns-in-Nary
+returns-in-Nary c =
+    c.run_at.ensures ∙ of_kind_law c.args.s.now c.args.q c.args.e _ _ c.expression_kind.ensures c.expression_place-at.ensures.0 Nary c.in-Nary.is
 
-pub returns-in-5 : goal.returns-in-5
-returns-in-5 c =
-    rw c.like_estimate.ensures (of_kind_law c.args.s.now c.args.q c.args.e _ _ c.expression_kind-kind.ensures c.expression_place-at.ensures.0 5 c.in-5.is)
+pub returns-in-Like : goal.returns-in-Like
+returns-in-Like c =
+    rw c.like_estimate.ensures (of_kind_law c.args.s.now c.args.q c.args.e _ _ c.expression_kind.ensures c.expression_place-at.ensures.0 Like c.in-Like.is)
 
 pub returns-in_default : goal.returns-in_default
 returns-in_default c =
-    rw c.default_estimate.ensures (of_other c.args.s.now c.args.q c.args.e _ _ c.expression_kind-kind.ensures c.expression_place-at.ensures.0 (λ h. omega arith) (λ h. omega arith) (λ h. omega arith) (λ h. omega arith) (λ h. omega arith))
+    rw c.default_estimate.ensures (of_other c.args.s.now c.args.q c.args.e _ _ c.expression_kind.ensures c.expression_place-at.ensures.0 c.in_default.not-Literal c.in_default.not-Unary c.in_default.not-Binary c.in_default.not-Nary c.in_default.not-Like)

@@ -1,8 +1,7 @@
-use mathlib.Core.Path.{refl}
 use lib.Ieee.{of_bits}
 use Rattle.range.specs.Selectivity.{unit_estimate}
 use Rattle.range.proofs.selectivity.unit_estimate.Goals as goal
 
 pub returns : goal.returns
 unfolding unit_estimate of_bits
-returns c = rw (c.derived.ensures, c.some-2.ensures, c.some.ensures) refl
+returns c = c.derived.ensures

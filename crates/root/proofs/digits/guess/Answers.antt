@@ -3,6 +3,7 @@ use Rattle.std.proofs.Common.{ap, ◌∙◌, rules}
 use Rattle.root.specs.Guess.{guessed}
 use Rattle.root.proofs.Quick.{guess_whole, guess_low, guess_high}
 use Rattle.root.proofs.digits.guess.Goals as goal
+use Rattle.root.proofs.digits.guess.Goals.{else-g-via-then-g+else-g-2, else-g-via-else-g}
 
 pub truncating_f64_to_u64-requires-clause-lower_bound : goal.truncating_f64_to_u64-requires-clause-lower_bound
 unfolding of_bits neg
@@ -16,10 +17,11 @@ pub returns-then-g-2 : goal.returns-then-g-2
 unfolding of_bits
 returns-then-g-2 c = c.truncating_f64_to_u64.ensures ∙ guess_whole _ _ (c.guessed-g.ensures ∙ ap guessed c.nearest_u64_to_f64.ensures) c.if-g.true c.if-g-2.true
 
-pub returns-else-g-2 : goal.returns-else-g-2
+pub returns : goal.returns
 unfolding of_bits
-returns-else-g-2 c = guess_high _ _ (c.guessed-g.ensures ∙ ap guessed c.nearest_u64_to_f64.ensures) c.if-g.true c.if-g-2.false
-
-pub returns-else-g : goal.returns-else-g
-unfolding of_bits
-returns-else-g c = guess_low _ _ (c.guessed-g.ensures ∙ ap guessed c.nearest_u64_to_f64.ensures) c.if-g.false
+returns c =
+    let is = c.guessed-g.ensures ∙ ap guessed c.nearest_u64_to_f64.ensures in
+    elim c.else-g.branch [
+      | else-g-via-then-g+else-g-2 w ↦ guess_high _ _ is w.if-g.true w.if-g-2.false
+      | else-g-via-else-g w ↦ guess_low _ _ is w.if-g.false
+    ]

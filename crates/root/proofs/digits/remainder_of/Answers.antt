@@ -1,28 +1,33 @@
-use Rattle.root.proofs.Quick.{remainder_fits}
-use Rattle.std.proofs.Common.{refl, arith, le-ltb, lt-ltb, le-leb}
-use borrow.Author.Tests.{lt-leb}
-use Rattle.root.specs.Guess.{remainder_of}
+use Rattle.std.proofs.Common.{arith, lt_of_not-le}
+use Rattle.root.proofs.Quick.{remainder_none, remainder_end}
 use Rattle.root.proofs.digits.remainder_of.Goals as goal
 
-pub returns-then-w-aa : goal.returns-then-w-aa
-unfolding remainder_of
-returns-then-w-aa c = (rw (lt-leb _ _ c.if-w-aa.true) refl, omega arith)
+pub returns-in_default-clause-value : goal.returns-in_default-clause-value
+returns-in_default-clause-value c = remainder_none _ _ (λ l. c.in_default.ensures l.0)
 
-pub returns-then-e-ge536870912 : goal.returns-then-e-ge536870912
-unfolding remainder_of
-returns-then-e-ge536870912 c = (rw (le-leb _ _ c.if-w-aa.false, le-ltb _ _ c.if-e-ge536870912.true) refl, omega arith)
+pub returns-then-e-ge-UPPER_LIMIT-clause-value : goal.returns-then-e-ge-UPPER_LIMIT-clause-value
+returns-then-e-ge-UPPER_LIMIT-clause-value c =
+    let e = c.in-Some.ensures.1 in
+    let t = c.if-e-ge-UPPER_LIMIT.true in
+    remainder_none _ _ (λ l. let h = l.1 in omega arith)
 
-pub returns-then-h-ab : goal.returns-then-h-ab
-unfolding remainder_of
-returns-then-h-ab c = (rw (le-leb _ _ c.if-w-aa.false, lt-ltb _ _ c.if-e-ge536870912.false, lt-leb _ _ c.if-h-ab.true) refl, omega arith)
+pub returns-in_default-checked_sub-clause-value : goal.returns-in_default-checked_sub-clause-value
+returns-in_default-checked_sub-clause-value c =
+    let e = c.in-Some.ensures.1 in
+    let t = lt_of_not-le c.in_default-checked_sub.ensures in
+    remainder_none _ _ (λ l. let h = l.2 in omega arith)
 
-pub returns-then-f-ge68719476736 : goal.returns-then-f-ge68719476736
-unfolding remainder_of
-returns-then-f-ge68719476736 c = (rw (le-leb _ _ c.if-w-aa.false, lt-ltb _ _ c.if-e-ge536870912.false, le-leb _ _ c.if-h-ab.false, le-ltb _ _ c.if-f-ge68719476736.true) refl, omega arith)
+pub returns-then-f-ge-MIDDLE_LIMIT-clause-value : goal.returns-then-f-ge-MIDDLE_LIMIT-clause-value
+returns-then-f-ge-MIDDLE_LIMIT-clause-value c =
+    let e = c.in-Some.ensures.1 in
+    let f = c.in-Some-checked_sub.ensures.1 in
+    let t = c.if-f-ge-MIDDLE_LIMIT.true in
+    remainder_none _ _ (λ l. let h = l.3 in omega arith)
 
-pub returns-then-m-bb : goal.returns-then-m-bb
-unfolding remainder_of
-returns-then-m-bb c = (rw (le-leb _ _ c.if-w-aa.false, lt-ltb _ _ c.if-e-ge536870912.false, le-leb _ _ c.if-h-ab.false, lt-ltb _ _ c.if-f-ge68719476736.false, lt-leb _ _ c.if-m-bb.true) refl, omega arith)
-
-pub returns : goal.returns
-returns c = (remainder_fits _ _ c.if-w-aa.false c.if-e-ge536870912.false c.if-h-ab.false c.if-f-ge68719476736.false c.if-m-bb.false, omega arith)
+pub returns-clause-value : goal.returns-clause-value
+returns-clause-value c =
+    let e = c.in-Some.ensures.1 in
+    let f = c.in-Some-checked_sub.ensures.1 in
+    let i = c.if-e-ge-UPPER_LIMIT.false in
+    let j = c.in-Some-checked_sub.ensures.0 in
+    remainder_end _ _ _ _ c.in-Some.ensures.0 (omega arith) (omega arith) c.if-f-ge-MIDDLE_LIMIT.false (omega arith) c.checked_sub-3.ensures

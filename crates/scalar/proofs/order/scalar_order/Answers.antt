@@ -1,17 +1,14 @@
+use Rattle.std.proofs.Common.{rules}
 use Rattle.scalar.specs.Order.{scalar_order}
-use mathlib.Core.Path.{refl}
-use mir.Syntax.{w64}
-use Rattle.signed.proofs.SignedLaws.{kept}
-use borrow.Author.Rules.{rules}
 use Rattle.scalar.proofs.order.scalar_order.Goals as goal
 
 pub returns-in-Null : goal.returns-in-Null
 unfolding scalar_order
-returns-in-Null c = rw c.in-Null.is refl
+returns-in-Null c = search rules
 
 pub returns-in-Boolean : goal.returns-in-Boolean
 unfolding scalar_order
-returns-in-Boolean c = rw (c.integer_option_order.ensures, c.as_boolean.ensures, kept w64 c.boolean_integer.result c.boolean_integer.type_inv, c.boolean_integer.ensures, c.in-Boolean.is) refl
+returns-in-Boolean c = search rules
 
 pub returns-in-Int32 : goal.returns-in-Int32
 unfolding scalar_order
@@ -23,7 +20,7 @@ returns-in-Int64 c = search rules
 
 pub returns-in-Float64 : goal.returns-in-Float64
 unfolding scalar_order
-returns-in-Float64 c = rw (c.float_option_order.ensures, c.as_float64.ensures, c.in-Float64.is) refl
+returns-in-Float64 c = search rules
 
 pub returns-in-Decimal128 : goal.returns-in-Decimal128
 unfolding scalar_order

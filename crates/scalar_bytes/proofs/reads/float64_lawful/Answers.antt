@@ -1,7 +1,11 @@
 use lib.Ieee.{of_bits}
-use mathlib.Core.Path.{refl}
+use mathlib.Core.Path.{sym, ◌∙◌}
 use Rattle.scalar_bytes.proofs.reads.float64_lawful.Goals as goal
 
-pub returns : goal.returns
+pub returns-then-zero_or_between : goal.returns-then-zero_or_between
 unfolding of_bits
-returns c = rw (c.either.ensures, c.between.ensures, c.zero_or_between.ensures) refl
+returns-then-zero_or_between c = rw (sym c.zero_or_between.ensures ∙ c.if-zero_or_between.true) c.if-zero_or_between.true
+
+pub returns-else-zero_or_between : goal.returns-else-zero_or_between
+unfolding of_bits
+returns-else-zero_or_between c = rw (sym c.zero_or_between.ensures ∙ c.if-zero_or_between.false) c.between.ensures

@@ -5,6 +5,3 @@ use Rattle.sheet_cases.proofs.entries.same_bytes.Given as goal
 
 abbrev pub invariant-loop-i : goal.invariant-loop-i
 invariant-loop-i l = (l.i ≤ l.n) × (same_bytes l.out l.a l.at l.i ≡ same_bytes l.out l.a l.at l.n)
-
-abbrev pub decreases-loop-i : goal.decreases-loop-i
-decreases-loop-i l = l.i

@@ -6,10 +6,9 @@ use Rattle.sheet_claims.proofs.stores.copy.Goals as goal
 
 pub loop-i-preserved : goal.loop-i-preserved
 loop-i-preserved c = (
-  omega arith,
-  length-set c.loop-i.s _ _ ∙ c.loop-i.invariant.1,
-  rw c.byte_at.ensures (copied_next _ _ _ _ _ _ _ c.loop-i-test.true c.loop-i.invariant.2),
+  length-set c.loop-i.s _ _ ∙ c.loop-i.invariant.0,
+  rw c.byte_at.ensures (copied_next _ _ _ _ _ _ _ c.loop-i-test.true c.loop-i.invariant.1),
 )
 
 pub returns : goal.returns
-returns c = copied_end _ _ _ _ _ _ _ c.loop-i-test.false c.loop-i.invariant.2
+returns c = copied_end _ _ _ _ _ _ _ (omega arith) c.loop-i.invariant.1

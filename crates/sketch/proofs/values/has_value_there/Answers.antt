@@ -1,7 +1,10 @@
-use Rattle.std.proofs.Common.{sym, ap}
-use Rattle.scalar.specs.Order.{is_equal}
-use Rattle.scalar.proofs.OrderCases.{null_right}
+use Rattle.std.proofs.Common.{arith}
+use Rattle.std.proofs.lemmas.Int.{to_z-of_z}
+use Rattle.sketch.proofs.ValueLaws.{month_day_nano_value, day_time_value}
 use Rattle.sketch.proofs.values.has_value_there.Goals as goal
 
-pub returns-in-Null : goal.returns-in-Null
-returns-in-Null c = rw c.in-Null.is (sym (ap is_equal (null_right _)))
+pub returns-then-byte_there-eq8 : goal.returns-then-byte_there-eq8
+returns-then-byte_there-eq8 c = grind (arith, to_z-of_z, month_day_nano_value)
+
+pub returns-then-byte_there-eq9 : goal.returns-then-byte_there-eq9
+returns-then-byte_there-eq9 c = grind (arith, to_z-of_z, day_time_value)

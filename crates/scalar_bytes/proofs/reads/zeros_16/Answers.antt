@@ -1,5 +1,0 @@
-use Rattle.le.proofs.FieldLaws.{zeros_split}
-use Rattle.scalar_bytes.proofs.reads.zeros_16.Goals as goal
-
-pub returns : goal.returns
-returns c = rw (c.both.ensures, c.u64_at-2.ensures, c.u64_at.ensures) (zeros_split 8 8 c.args.s.now c.args.at)
