@@ -76,14 +76,14 @@ def points(commit):
     facts = defaultdict(set)
     pairs = defaultdict(set)
     for name, text in sorted(sources(commit).items()):
-        for m in re.finditer(r'^ *(?:pub )?enum (\w+) \{\n(.*?)^ *\}', text, re.M | re.S):
+        for m in re.finditer(r'^ *(?:pub )?enum (\w+)(?:<[^>]*>)? \{\n(.*?)^ *\}', text, re.M | re.S):
             vs = variants(m.group(2))
             bare = [v for v in vs if not re.search(r'[({]', v)]
             if len(vs) == 2 and len(bare) == 1 or {'Less', 'Greater'} <= set(bare):
                 found['1 an enum like Option'].append(f'{name}: {m.group(1)}')
             elif len(vs) == 2 and not bare:
                 found['1 an enum like Result'].append(f'{name}: {m.group(1)}')
-        for m in re.finditer(r'^ *(?:pub )?struct (\w+) \{\n(.*?)^ *\}', text, re.M | re.S):
+        for m in re.finditer(r'^ *(?:pub )?struct (\w+)(?:<[^>]*>)? \{\n(.*?)^ *\}', text, re.M | re.S):
             if re.search(r': bool,', m.group(2)):
                 found['1 a struct with a flag'].append(f'{name}: {m.group(1)}')
             if re.search(r': \[', m.group(2)):
@@ -103,6 +103,9 @@ def points(commit):
                 shapes[s].append(at)
             for w in re.findall(r'^ *(while|loop)\b', body, re.M):
                 found['3 a while or a loop'].append(at)
+            for m in re.finditer(r"^( *)(?:'\w+: )?for (\w+) in [^\n]*\.\.[^\n]*\{\n(.*?)^\1\}", body, re.M | re.S):
+                if re.search(r'\[' + m.group(2) + r'\b', m.group(3)):
+                    found['3 a for that indexes'].append(at)
             for w in re.findall(r'\b(?:rules::)?(both|either)\(', body):
                 found['4 both() or either()'].append(at)
             arms = re.findall(r'=> ([^\n]*),\n', body)
@@ -125,7 +128,7 @@ def points(commit):
             if len(plain) >= 2:
                 found['6 slices side by side'].append(at)
             calls = re.findall(r'^ *\w+(?:::\w+)+(?:\([^)]*\)| \{[^}]*\})? => \{?\s*[a-z_0-9:]+\(', body, re.M)
-            if len(calls) >= 2 and re.search(r'\bmatch (?:question|kind|tally|place)\b', body):
+            if len(calls) >= 2 and re.search(r'\bmatch (?:\w+\.)?(?:question|kind|tally|place|carried|line)\b', body):
                 found['7 a switch on a step'].append(at)
     for s, where in shapes.items():
         if len(where) >= 2:

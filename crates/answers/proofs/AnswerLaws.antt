@@ -10,7 +10,7 @@ use Rattle.sheet.specs.Check.{Checked, Refused as SheetRefused, Accepted, check}
 use Rattle.sheet.specs.Sheet.{Sheet, sheet_of, sheet_in}
 use Rattle.sheet.specs.declared.Sections.{Sections}
 use Rattle.sheet.proofs.AcceptedLaws.{accepted}
-use Rattle.answers.specs.Answers.{Answer, Refused, Written, Result, refusal, bytes, answered, leaves, Comes, named_result, sheet_result}
+use Rattle.answers.specs.Answers.{Answer, Refused, Written, Result, refusal, bytes, answered, leaves, Comes, named_result, sheet_result, expression_result}
 
 -- ---- a result
 
@@ -51,3 +51,13 @@ module _ (s : List ℕ) (result : Sheet → Result) (c : Checked) (f : c ≡ che
   sheet_accepted q g =
       ap (λ (x : Sections). result (sheet_of s x)) (sym (accepted s q (sym f ∙ g)).1)
       ∙ ap (λ (d : Checked). sheet_result d (result (sheet_in s))) (sym g ∙ f)
+
+-- the same for a call that names an expression
+module _ (s : List ℕ) (e : ℕ) (answer : Sheet → ℕ → List ℕ) where
+  pub refused_result : (n : ℕ) → SheetRefused n ≡ check s → refusal n ≡ expression_result s e answer
+  unfolding expression_result
+  refused_result n h = sheet_refused s (λ (sheet : Sheet). named_result sheet e (answer sheet e)) (SheetRefused n) h n refl
+
+  pub accepted_result : (q : Sections) → Accepted q ≡ check s → named_result (sheet_of s q) e (answer (sheet_of s q) e) ≡ expression_result s e answer
+  unfolding expression_result
+  accepted_result q h = sheet_accepted s (λ (sheet : Sheet). named_result sheet e (answer sheet e)) (Accepted q) h q refl

@@ -4,8 +4,8 @@ use mathlib.Core.Path.{◌≡◌, refl, sym, ap, ◌∙◌, subst}
 use mathlib.Core.Bool.{Bool, true, false, cond}
 use mathlib.Core.List.{List}
 use native.Mathlib.Omega.{arith}
-use borrow.Author.Tests.{eqb-true, eqb-false, ltb-true, ltb-false}
-use lib.Dec.{eqb, ltb}
+use borrow.Author.Tests.{eqb-true, eqb-false}
+use lib.Dec.{eqb}
 use lib.Ieee.{Float}
 use Rattle.std.specs.Prelude.{Option, None, Some}
 use Rattle.std.specs.Option.{option_or}
@@ -29,28 +29,10 @@ use Rattle.layout.specs.Places.{column_limit}
 use Rattle.class_state.specs.Distincts.{record_place, stored_from, store_distincts}
 use Rattle.class_state.specs.State.{unknown_distinct, own_distinct, column_distinct, apart}
 
--- ---- each column its own root, where a loop stands at the i-th
+-- ---- each column its own root, of the first i
 
 abbrev pub Own : List ℕ → ℕ → Type 0
 Own out i = (k : ℕ) → k < i → get_or out k 0 ≡ k
-
-pub own_first : (out : List ℕ) → Own out 0
-own_first out k h = absurd (none k h)
-  where
-    none : (k : ℕ) → k < 0 → ⊥
-    none k h = omega arith
-
-pub own_next : (out : List ℕ) (i : ℕ) → i < length out → Own out i → Own (set out i i) (i + 1)
-own_next out i h o k l = go (ltb k i) (ltb-true k i) (ltb-false k i)
-  where
-    go : (t : Bool) → (t ≡ true → k < i) → (t ≡ false → i ≤ k) → get_or (set out i i) k 0 ≡ k
-    go true e f =
-        let b = e refl in
-        get_or-set_other out i k i 0 (λ (z : k ≡ i). omega arith) ∙ o k b
-    go false e f =
-        let b = f refl in
-        let s : k ≡ i = omega arith in
-        subst (λ (j : ℕ). get_or (set out i i) j 0 ≡ j) (sym s) (get_or-set_same out i i 0 h)
 
 pub own_all : (out : List ℕ) (i : ℕ) → length out ≡ 128 → 128 ≤ i → Own out i → out ≡ tabulate itself column_limit
 own_all out i n h o = ext_get_or 0 out (tabulate itself 128) (n ∙ sym (tabulate_length itself 128)) (λ (k : ℕ) (l : k < length out). each k l)

@@ -1,16 +1,15 @@
 -- How many columns each root has, counted in one pass over the columns. Assumes nothing.
-use Prim.Native.Nat.{ℕ, zero, suc, ◌+◌, ◌-◌, ◌≤◌, ◌<◌}
+use Prim.Native.Nat.{ℕ, zero, suc, ◌+◌, ◌-◌, ◌*◌, ◌≤◌, ◌<◌}
 use mathlib.Core.Path.{◌≡◌, refl, sym, ap, ◌∙◌}
 use mathlib.Core.Bool.{Bool, true, false, cond}
 use mathlib.Core.List.{List, [], ◌∷◌}
 use native.Mathlib.Omega.{arith}
 use native.Mathlib.Nat.{add-zero, zero-add}
-use native.Mathlib.Numerals.{add-one}
 use borrow.Author.Tests.{eqb-true, eqb-false, ltb-true, ltb-false}
 use lib.Dec.{eqb, ltb, leb}
-use lib.ListN.{length, get_or, set, drop, replicate, get_or-replicate, get_or-eq_default, drop_of_length-le}
-use lib.Seq.{drop-cons, get_or-set_same, get_or-set_other, ext_get_or}
-use Rattle.std.specs.List.{fold, count_by}
+use lib.ListN.{length, get_or, set, replicate, get_or-replicate, get_or-eq_default}
+use lib.Seq.{get_or-set_same, get_or-set_other, ext_get_or}
+use Rattle.std.specs.List.{fold, sum_by, count_by}
 use Rattle.float.specs.Integers.{bit}
 use Rattle.records.specs.Lists.{tabulate_from, tabulate}
 use Rattle.records.proofs.ListLaws.{tabulate_length, tabulate_at}
@@ -20,40 +19,42 @@ use Rattle.class_state.specs.State.{has_root, members, is_returned, returned_roo
 use Rattle.class_state.specs.Sizes.{member_count, class_size, returned_size, sum_over, returned_count, counts_size}
 use Rattle.class_state.proofs.SizeLaws.{classes_size, members_below, count_step, count_end}
 
--- ---- a sum, where a loop stands at the i-th of a list
+-- ---- sums as the library has them
 
-module _ (f : ℕ → ℕ) (l : List ℕ) where
-  abbrev pub SumRest : ℕ → ℕ → Type 0
-  SumRest sum i = sum + sum_over f (drop i l) ≡ sum_over f l
-
-  pub sum_first : SumRest 0 0
-  sum_first = zero-add (sum_over f l)
-
-  pub sum_next : (sum i one : ℕ) → i < length l → one ≡ f (get_or l i 0) → SumRest sum i → SumRest (sum + one) (i + 1)
-  unfolding sum_over
-  sum_next sum i one h e r =
-      let d : sum_over f (drop i l) ≡ f (get_or l i 0) + sum_over f (drop (i + 1) l) = ap (sum_over f) (drop-cons l i 0 h) ∙ ap (λ (k : ℕ). f (get_or l i 0) + sum_over f (drop k l)) (sym (add-one i)) in
-      omega arith
-
-  pub sum_all : (sum i : ℕ) → length l ≤ i → SumRest sum i → sum ≡ sum_over f l
-  unfolding sum_over
-  sum_all sum i h r = let d = ap (sum_over f) (drop_of_length-le l h) in omega arith
-
-count_bits : (p : ℕ → Bool) (n : ℕ) (l : List ℕ) → fold (λ a x. a + cond (p x) 1 0) n l ≡ n + sum_over (λ (x : ℕ). bit (p x)) l
+summed : (f g : ℕ → ℕ) → ((x : ℕ) → f x ≡ g x) → (n : ℕ) (l : List ℕ) → fold (λ a x. a + f x) n l ≡ n + sum_over g l
 unfolding sum_over
-count_bits p n [] = sym (add-zero n)
-count_bits p n (x ∷ l) =
-    let rest = count_bits p (n + cond (p x) 1 0) l in
-    let e = one (p x) in
+summed f g e n [] = sym (add-zero n)
+summed f g e n (x ∷ l) =
+    let rest = summed f g e (n + f x) l in
+    let here = e x in
     omega arith
+
+pub sum_is : (f : ℕ → ℕ) (l : List ℕ) → sum_by f l ≡ sum_over f l
+sum_is f l = summed f f (λ (x : ℕ). refl) 0 l ∙ zero-add (sum_over f l)
+
+-- how many bytes classes of so many columns take, at most
+size_below : (n : ℕ) → n ≤ 255 → returned_size n ≤ class_size 255
+size_below n h = go (leb 2 n)
+  where
+    go : (b : Bool) → cond b (class_size n) 0 ≤ 538
+    go true = omega arith
+    go false = omega arith
+
+pub counts_size_below : (counts : List ℕ) → ((i : ℕ) → get_or counts i 0 ≤ 255) → counts_size counts ≤ class_size 255 * length counts
+unfolding sum_over
+counts_size_below [] h = omega arith
+counts_size_below (n ∷ counts) h =
+    let one = size_below n (h 0) in
+    let rest = counts_size_below counts (λ (i : ℕ). h (suc i)) in
+    omega arith
+
+-- how many elements pass a test, as a sum
+pub count_passing : (p : ℕ → Bool) (l : List ℕ) → count_by p l ≡ sum_over (λ (x : ℕ). bit (p x)) l
+count_passing p l = summed (λ (x : ℕ). cond (p x) 1 0) (λ (x : ℕ). bit (p x)) (λ (x : ℕ). one (p x)) 0 l ∙ zero-add (sum_over (λ (x : ℕ). bit (p x)) l)
   where
     one : (b : Bool) → cond b 1 0 ≡ bit b
     one true = refl
     one false = refl
-
--- how many elements pass a test, as a sum
-pub count_passing : (p : ℕ → Bool) (l : List ℕ) → count_by p l ≡ sum_over (λ (x : ℕ). bit (p x)) l
-count_passing p l = count_bits p 0 l ∙ zero-add (sum_over (λ (x : ℕ). bit (p x)) l)
 
 ones : (l : List ℕ) → sum_over (λ (x : ℕ). 1) l ≡ length l
 unfolding sum_over

@@ -1,7 +1,7 @@
 // Every column alone.
 ghost use Rattle.std.specs.Prelude.{◌≡◌};
 ghost use Rattle.records.specs.Lists.{tabulate, itself};
-ghost use Rattle.sheet.specs.Sheet.{sheet_of};
+ghost use Rattle.sheet.specs.Sheet.{viewed};
 ghost use Rattle.layout.specs.Places.{column_limit};
 ghost use Rattle.class_state.specs.Distincts.{store_distincts};
 ghost use Rattle.class_state.specs.State.{unknown_distinct, apart};
@@ -12,32 +12,27 @@ use estimate::bytes::estimate_at;
 use layout::{
     COLUMN_DISTINCT_OFFSET, COLUMN_LIMIT, COLUMN_SIZE, COUNT_SIZE, UNKNOWN_COLUMN_NDV_CAP_OFFSET,
 };
-use le::floats::f64_at;
 use le::reads::u16_at;
-use sheet::Sections;
+use lookup::settings::setting_at;
+use sheet::View;
+use std::array;
 
 fn own_roots() -> [u8; COLUMN_LIMIT]
     ensures { result ≡ tabulate itself column_limit }
 {
-    let mut out = [0u8; COLUMN_LIMIT];
-    for i in 0..COLUMN_LIMIT {
-        out[i] = i as u8;
-    }
-    out
+    array::from_fn(|i| i as u8)
 }
 
 // The distinct of a column with no profile.
-fn unknown_distinct(s: &[u8], q: Sections) -> Estimate
-    ensures { result ≡ unknown_distinct (sheet_of s.now q) }
+#[tactic(auto, unfolding(crate::specs::State::unknown_distinct, sheet::specs::Sheet::sheet_of, sheet::specs::Order::record_at, records::specs::Settings::settings_at))]
+fn unknown_distinct(sheet: &View) -> Estimate
+    ensures { result ≡ unknown_distinct (viewed sheet.now) }
 {
-    Estimate::default(f64_at(
-        s,
-        q.settings as usize + COUNT_SIZE + UNKNOWN_COLUMN_NDV_CAP_OFFSET,
-    ))
+    Estimate::default(setting_at(sheet, UNKNOWN_COLUMN_NDV_CAP_OFFSET))
 }
 
 // The distincts of the profiles of a section, from the last to the first, so that the first of a
-// column is the one that stays.
+// column is the one that stays. A loop by places, since it writes where the profiles say.
 fn store_distincts(s: &[u8], section: u16, distincts: &mut [Estimate])
     ensures { distincts.new ≡ store_distincts s.now section distincts.old }
 {
@@ -52,13 +47,13 @@ fn store_distincts(s: &[u8], section: u16, distincts: &mut [Estimate])
 }
 
 // The left side goes behind the right one, so that its profiles are the ones that stay.
-pub fn apart(s: &[u8], q: Sections) -> EquivalenceClassState
-    ensures { result ≡ apart (sheet_of s.now q) }
+pub fn apart(sheet: &View) -> EquivalenceClassState
+    ensures { result ≡ apart (viewed sheet.now) }
 {
-    let unknown = unknown_distinct(s, q);
+    let unknown = unknown_distinct(sheet);
     let mut distincts = [unknown; COLUMN_LIMIT];
-    store_distincts(s, q.right_columns, &mut distincts);
-    store_distincts(s, q.left_columns, &mut distincts);
+    store_distincts(sheet.bytes, sheet.sections.right_columns, &mut distincts);
+    store_distincts(sheet.bytes, sheet.sections.left_columns, &mut distincts);
     EquivalenceClassState {
         roots: own_roots(),
         distincts,

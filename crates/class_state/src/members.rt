@@ -11,18 +11,19 @@ use crate::slots::root_of;
 use layout::COLUMN_LIMIT;
 use selection::{Test, put_selected};
 
-// One more at a root. Past the end nothing is counted.
+// One more at a root. Past the end nothing is counted. By its place: what is written through `get_mut` is
+// lost to the proof.
 fn raise(counts: &mut [u8], root: u8)
     requires { get_or counts.old root 0 < 255 }
     ensures { counts.new ≡ set counts.old root (get_or counts.old root 0 + 1) }
 {
-    let i = root as usize;
+    let i = usize::from(root);
     if i < counts.len() {
-        counts[i] = counts[i] + 1;
+        counts[i] += 1;
     }
 }
 
-// How many columns each root has: one pass over the columns.
+// How many columns each root has. By columns and not by roots: a column past the end counts at root 0.
 pub fn member_counts(roots: &[u8]) -> [u8; COLUMN_LIMIT]
     ensures { result ≡ tabulate (member_count roots.now) column_limit }
 {
@@ -33,13 +34,17 @@ pub fn member_counts(roots: &[u8]) -> [u8; COLUMN_LIMIT]
     counts
 }
 
+// The columns at one root. How many they are comes along: it is counted once, for the length of an
+// answer and for its bytes.
 #[derive(Clone, Copy)]
-struct HasRoot<'a> {
-    roots: &'a [u8],
-    root: u8,
+pub struct Members<'a> {
+    pub roots: &'a [u8],
+    pub root: u8,
+    pub count: u8,
+    pub ghost counted: { count ≡ member_count roots.now root },
 }
 
-impl Test for HasRoot<'_> {
+impl Test for Members<'_> {
     ghost test = { λ it. has_root it.roots.now it.root };
 
     fn passes(&self, n: u16) -> bool {
@@ -47,16 +52,12 @@ impl Test for HasRoot<'_> {
     }
 }
 
-// All of them, where it is known how many there are.
-pub fn put_members(roots: &[u8], root: u8, count: u8, out: &mut [u8]) -> usize
-    requires { (count ≡ member_count roots.now root) × (number_size * member_count roots.now root ≤ length out.old) }
-    ensures value { result ≡ number_size * member_count roots.now root }
-    ensures out_after { out.new ≡ onto (numbers_bytes (members roots.now root)) out.old }
+// All of them.
+#[tactic(auto, unfolding(crate::specs::State::members))]
+pub fn put_members(class: &Members, out: &mut [u8]) -> usize
+    requires { number_size * member_count class.now.roots.now class.now.root ≤ length out.old }
+    ensures value { result ≡ number_size * member_count class.now.roots.now class.now.root }
+    ensures out_after { out.new ≡ onto (numbers_bytes (members class.now.roots.now class.now.root)) out.old }
 {
-    put_selected(
-        &HasRoot { roots, root },
-        COLUMN_LIMIT as u16,
-        count as usize,
-        out,
-    )
+    put_selected(class, COLUMN_LIMIT as u16, usize::from(class.count), out)
 }

@@ -8,7 +8,7 @@ ghost use Rattle.class_state.specs.Bytes.{class_bytes, classes_bytes};
 ghost use Rattle.class_state.specs.Sizes.{member_count, class_size, returned_size, size_at_root, returned_count, counts_size};
 
 use crate::EquivalenceClassState;
-use crate::members::put_members;
+use crate::members::{Members, put_members};
 use estimate::Estimate;
 use estimate::bytes::put_estimate;
 use layout::{CLASS_DISTINCT_OFFSET, CLASS_HEAD_SIZE, CLASS_LEAST, COLUMN_LIMIT, NUMBER_SIZE};
@@ -16,7 +16,6 @@ use le::writes::put_u16;
 
 // How many classes are returned, by how many columns each root has.
 pub fn returned_count(counts: &[u8]) -> usize
-    requires { length counts.now ≡ column_limit }
     ensures { result ≡ returned_count counts.now }
 {
     counts
@@ -30,7 +29,7 @@ fn returned_size(count: u8) -> u32
     ensures { (result ≡ returned_size count) × (result ≤ class_size 255) }
 {
     if count >= CLASS_LEAST as u8 {
-        return CLASS_HEAD_SIZE as u32 + NUMBER_SIZE as u32 * count as u32;
+        return CLASS_HEAD_SIZE as u32 + NUMBER_SIZE as u32 * u32::from(count);
     }
     0
 }
@@ -41,53 +40,51 @@ pub fn counts_size(counts: &[u8]) -> usize
     ensures value { result ≡ counts_size counts.now }
     ensures upper_bound { result ≤ column_limit * class_size 255 }
 {
-    let mut size: u32 = 0;
-    for count in counts {
-        size += returned_size(*count);
-    }
+    let size: u32 = counts.iter().map(|&count| returned_size(count)).sum();
     size as usize
 }
 
-// The class at a root that has so many members.
-fn put_class(roots: &[u8], distinct: Estimate, root: u8, count: u8, out: &mut [u8]) -> usize
-    requires { (count ≡ member_count roots.now root) × (size_at_root roots.now root ≤ length out.old) }
-    ensures value { result ≡ size_at_root roots.now root }
-    ensures out_after { out.new ≡ onto (class_bytes (record { columns = members roots.now root; distinct = distinct })) out.old }
+// A class and its distinct.
+fn put_class(class: &Members, distinct: Estimate, out: &mut [u8]) -> usize
+    requires { size_at_root class.now.roots.now class.now.root ≤ length out.old }
+    ensures value { result ≡ size_at_root class.now.roots.now class.now.root }
+    ensures out_after { out.new ≡ onto (class_bytes (record { columns = members class.now.roots.now class.now.root; distinct = distinct })) out.old }
 {
-    put_u16(out, count as u16);
+    put_u16(out, u16::from(class.count));
     put_estimate(&mut out[CLASS_DISTINCT_OFFSET..], distinct);
-    CLASS_HEAD_SIZE + put_members(roots, root, count, &mut out[CLASS_HEAD_SIZE..])
+    CLASS_HEAD_SIZE + put_members(class, &mut out[CLASS_HEAD_SIZE..])
 }
 
 // The same, if it is returned.
-pub fn put_returned(roots: &[u8], distinct: Estimate, root: u8, count: u8, out: &mut [u8]) -> usize
-    requires { (count ≡ member_count roots.now root) × (returned_size (member_count roots.now root) ≤ length out.old) }
-    ensures value { result ≡ returned_size (member_count roots.now root) }
-    ensures out_after { out.new ≡ onto (cond (is_returned roots.now root) (class_bytes (record { columns = members roots.now root; distinct = distinct })) []) out.old }
+#[tactic(auto, using(crate::proofs::ReturnedLaws::bytes_not), unfolding(le::specs::Fields::onto))]
+pub fn put_returned(class: &Members, distinct: Estimate, out: &mut [u8]) -> usize
+    requires { returned_size (member_count class.now.roots.now class.now.root) ≤ length out.old }
+    ensures value { result ≡ returned_size (member_count class.now.roots.now class.now.root) }
+    ensures out_after { out.new ≡ onto (cond (is_returned class.now.roots.now class.now.root) (class_bytes (record { columns = members class.now.roots.now class.now.root; distinct = distinct })) []) out.old }
 {
-    if count >= CLASS_LEAST as u8 {
-        return put_class(roots, distinct, root, count, out);
+    if class.count >= CLASS_LEAST as u8 {
+        return put_class(class, distinct, out);
     }
     0
 }
 
-// All that are returned, where it is known how many bytes they take.
+// All that are returned. How many bytes they take is counted once, for the length of an answer and to know
+// here where to end. A loop, since each class is written where the one before it ended.
 pub fn put_classes(state: &EquivalenceClassState, counts: &[u8], size: usize, out: &mut [u8])
     requires { (counts.now ≡ tabulate (member_count state.now.roots) column_limit) × (size ≡ counts_size counts.now) × (counts_size counts.now ≤ length out.old) }
     ensures { out.new ≡ onto (classes_bytes (into_classes state.now)) out.old }
 {
     let mut at: usize = 0;
-    for root in 0..COLUMN_LIMIT {
+    for (root, &count) in counts.iter().enumerate() {
         if at == size {
             return;
         }
+        let class = Members {
+            roots: &state.roots,
+            root: root as u8,
+            count,
+        };
         let distinct = state.distincts[root];
-        at += put_returned(
-            &state.roots,
-            distinct,
-            root as u8,
-            counts[root],
-            &mut out[at..],
-        );
+        at += put_returned(&class, distinct, &mut out[at..]);
     }
 }

@@ -12,6 +12,7 @@ fn moved(from: u8, to: u8, root: u8) -> u8
     if root == from { to } else { root }
 }
 
+#[tactic(auto, using(crate::proofs::MappedLaws::mapped_none, crate::proofs::MappedLaws::mapped_next, crate::proofs::MappedLaws::mapped_all))]
 fn move_each(roots: &mut [u8], from: u8, to: u8)
     ensures { roots.new ≡ map (moved from to) roots.old }
 {
@@ -38,20 +39,24 @@ pub fn united(same: bool, left: Estimate, right: Estimate, distinct: Estimate) -
     if same {
         return left;
     }
-    Estimate::min_by_value(Estimate::min_by_value(left, right), distinct)
+    left.min_by_value(right).min_by_value(distinct)
 }
 
 impl EquivalenceClassState {
     // The right column's class goes under the left one's root.
+    #[tactic(auto, using(crate::proofs::UnionLaws::union_step, crate::proofs::UnionLaws::root_below))]
     pub fn union(&mut self, left: u16, right: u16, distinct: Estimate)
         requires { Rooted self.old.roots }
         ensures { self.new ≡ union self.old left right distinct }
     {
         let to = root_of(&self.roots, left);
         let from = root_of(&self.roots, right);
-        let there = self.distincts[to as usize];
-        let other = self.distincts[from as usize];
-        self.distincts[to as usize] = united(to == from, there, other, distinct);
+        self.distincts[to as usize] = united(
+            to == from,
+            self.distincts[to as usize],
+            self.distincts[from as usize],
+            distinct,
+        );
         move_roots(&mut self.roots, from, to);
     }
 }

@@ -1,1 +1,2 @@
-mod ColumnLaws
+pub mod PlaceLaws
+pub mod TenthLaws

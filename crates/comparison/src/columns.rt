@@ -1,15 +1,16 @@
 // binary_selectivity of the source's analysis.rs for two columns that are equated.
-ghost use Rattle.std.specs.Prelude.{◌≡◌, ◌<◌, ◌^◌};
+ghost use Rattle.std.specs.Prelude.{◌≡◌};
 ghost use Rattle.records.specs.Columns.{column_profile_at};
-ghost use Rattle.sheet.specs.Sheet.{sheet_of};
+ghost use Rattle.sheet.specs.Sheet.{viewed};
 ghost use Rattle.comparison.specs.Columns.{self_selectivity, pair_selectivity, profiles_selectivity, columns_selectivity};
 
 use estimate::Estimate;
 use float::order::{clamp_unit, f64_max};
-use lookup::profiles::{distinct_at, frequency_at, profile_place};
+use lookup::profiles::{ProfilePlace, distinct_at, frequency_at, profile_place};
 use range::selectivity::{default_estimate, non_null_fraction, unit_estimate};
-use sheet::Sections;
+use sheet::View;
 
+#[tactic(auto, using(range::proofs::BitLaws::one_bits), unfolding(crate::specs::Columns::self_selectivity))]
 fn self_selectivity(null_safe: bool, non_null: f64) -> Estimate
     ensures { result ≡ self_selectivity null_safe non_null }
 {
@@ -19,6 +20,7 @@ fn self_selectivity(null_safe: bool, non_null: f64) -> Estimate
     unit_estimate(non_null)
 }
 
+#[tactic(auto, using(range::proofs::BitLaws::zero_bits, range::proofs::BitLaws::one_bits), unfolding(crate::specs::Columns::pair_selectivity))]
 fn pair_selectivity(
     null_safe: bool,
     left_non_null: f64,
@@ -37,56 +39,39 @@ fn pair_selectivity(
     unit_estimate(clamp_unit(equal_non_null + 0.0))
 }
 
-// By the places of the two profiles.
+#[tactic(auto, unfolding(crate::specs::Columns::profiles_selectivity))]
 fn profiles_selectivity(
     s: &[u8],
     null_safe: bool,
     same: bool,
-    left: usize,
-    left_rows: f64,
-    right: usize,
-    right_rows: f64,
+    left: ProfilePlace,
+    right: ProfilePlace,
 ) -> Estimate
-    requires { (left < 2 ^ 40) × (right < 2 ^ 40) }
-    ensures { result ≡ profiles_selectivity null_safe same (column_profile_at s.now left) left_rows (column_profile_at s.now right) right_rows }
+    ensures { result ≡ profiles_selectivity null_safe same (column_profile_at s.now left.at) left.rows (column_profile_at s.now right.at) right.rows }
 {
-    let left_non_null = non_null_fraction(frequency_at(s, left), left_rows);
+    let left_non_null = non_null_fraction(frequency_at(s, left.at), left.rows);
     if same {
         return self_selectivity(null_safe, left_non_null);
     }
-    let right_non_null = non_null_fraction(frequency_at(s, right), right_rows);
+    let right_non_null = non_null_fraction(frequency_at(s, right.at), right.rows);
     pair_selectivity(
         null_safe,
         left_non_null,
         right_non_null,
-        distinct_at(s, left),
-        distinct_at(s, right),
+        distinct_at(s, left.at),
+        distinct_at(s, right.at),
     )
 }
 
-pub fn columns_selectivity(
-    s: &[u8],
-    q: Sections,
-    null_safe: bool,
-    left: u16,
-    right: u16,
-) -> Estimate
-    ensures { result ≡ columns_selectivity (sheet_of s.now q) null_safe left right }
+#[tactic(auto, using(crate::proofs::PlaceLaws::profile_found, crate::proofs::PlaceLaws::profile_none), unfolding(crate::specs::Columns::columns_selectivity))]
+pub fn columns_selectivity(sheet: &View, null_safe: bool, left: u16, right: u16) -> Estimate
+    ensures { result ≡ columns_selectivity (viewed sheet.now) null_safe left right }
 {
-    let Some(first) = profile_place(s, q, left) else {
-        return default_estimate(s, q);
+    let Some(first) = profile_place(sheet, left) else {
+        return default_estimate(sheet);
     };
-    let Some(second) = profile_place(s, q, right) else {
-        return default_estimate(s, q);
+    let Some(second) = profile_place(sheet, right) else {
+        return default_estimate(sheet);
     };
-    let same = left == right;
-    profiles_selectivity(
-        s,
-        null_safe,
-        same,
-        first.at,
-        first.rows,
-        second.at,
-        second.rows,
-    )
+    profiles_selectivity(sheet.bytes, null_safe, left == right, first, second)
 }

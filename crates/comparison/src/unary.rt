@@ -1,6 +1,6 @@
 // IS NULL and IS NOT NULL in filter_selectivity_for_predicate of the source's analysis.rs.
 ghost use Rattle.std.specs.Prelude.{◌≡◌};
-ghost use Rattle.sheet.specs.Sheet.{sheet_of};
+ghost use Rattle.sheet.specs.Sheet.{viewed};
 ghost use Rattle.lookup.specs.Lookup.{profile_and_rows};
 ghost use Rattle.comparison.specs.Unary.{frequency_in, frequency_of, larger_rows, is_null_selectivity, is_not_null_selectivity, unary_of, unary_selectivity};
 
@@ -10,30 +10,29 @@ use lookup::profiles::{frequency_at, left_rows, profile_place, right_rows};
 use parts::column_ref;
 use range::selectivity::{default_estimate, unit_estimate};
 use records::expressions::UnaryOp;
-use sheet::Sections;
+use sheet::View;
 
-fn column_frequency(s: &[u8], q: Sections, column: u16) -> Option<f64>
-    ensures { result ≡ frequency_in (profile_and_rows (sheet_of s.now q) column) }
+#[tactic(auto, using(crate::proofs::PlaceLaws::profile_found, crate::proofs::PlaceLaws::profile_none))]
+fn column_frequency(sheet: &View, column: u16) -> Option<f64>
+    ensures { result ≡ frequency_in (profile_and_rows (viewed sheet.now) column) }
 {
-    let found = profile_place(s, q, column)?;
-    Some(frequency_at(s, found.at))
+    let found = profile_place(sheet, column)?;
+    Some(frequency_at(sheet.bytes, found.at))
 }
 
-fn frequency_of(s: &[u8], q: Sections, column: Option<u16>) -> Option<f64>
-    ensures { result ≡ frequency_of (sheet_of s.now q) column }
+fn frequency_of(sheet: &View, column: Option<u16>) -> Option<f64>
+    ensures { result ≡ frequency_of (viewed sheet.now) column }
 {
-    match column {
-        None => None,
-        Some(column) => column_frequency(s, q, column),
-    }
+    column_frequency(sheet, column?)
 }
 
-fn larger_rows(s: &[u8], q: Sections) -> f64
-    ensures { result ≡ larger_rows (sheet_of s.now q) }
+fn larger_rows(sheet: &View) -> f64
+    ensures { result ≡ larger_rows (viewed sheet.now) }
 {
-    f64_max(f64_max(left_rows(s, q), right_rows(s, q)), 1.0)
+    f64_max(f64_max(left_rows(sheet), right_rows(sheet)), 1.0)
 }
 
+#[tactic(auto, using(crate::proofs::TenthLaws::tenth_bits))]
 fn is_null_selectivity(frequency: Option<f64>, rows: f64) -> f64
     ensures { result ≡ is_null_selectivity frequency rows }
 {
@@ -43,6 +42,7 @@ fn is_null_selectivity(frequency: Option<f64>, rows: f64) -> f64
     }
 }
 
+#[tactic(auto, using(crate::proofs::TenthLaws::nine_tenths_bits))]
 fn is_not_null_selectivity(frequency: Option<f64>, rows: f64) -> f64
     ensures { result ≡ is_not_null_selectivity frequency rows }
 {
@@ -52,19 +52,20 @@ fn is_not_null_selectivity(frequency: Option<f64>, rows: f64) -> f64
     }
 }
 
-fn unary_of(s: &[u8], q: Sections, op: UnaryOp, frequency: Option<f64>, rows: f64) -> Estimate
-    ensures { result ≡ unary_of (sheet_of s.now q) op frequency rows }
+fn unary_of(sheet: &View, op: UnaryOp, frequency: Option<f64>, rows: f64) -> Estimate
+    ensures { result ≡ unary_of (viewed sheet.now) op frequency rows }
 {
     match op {
-        UnaryOp::Not | UnaryOp::Negate => default_estimate(s, q),
+        UnaryOp::Not | UnaryOp::Negate => default_estimate(sheet),
         UnaryOp::IsNull => unit_estimate(is_null_selectivity(frequency, rows)),
         UnaryOp::IsNotNull => unit_estimate(is_not_null_selectivity(frequency, rows)),
     }
 }
 
-pub fn unary_selectivity(s: &[u8], q: Sections, op: UnaryOp, expr: u16) -> Estimate
-    ensures { result ≡ unary_selectivity (sheet_of s.now q) op expr }
+#[tactic(auto, unfolding(crate::specs::Unary::unary_selectivity))]
+pub fn unary_selectivity(sheet: &View, op: UnaryOp, expr: u16) -> Estimate
+    ensures { result ≡ unary_selectivity (viewed sheet.now) op expr }
 {
-    let frequency = frequency_of(s, q, column_ref(s, q, expr));
-    unary_of(s, q, op, frequency, larger_rows(s, q))
+    let frequency = frequency_of(sheet, column_ref(sheet, expr));
+    unary_of(sheet, op, frequency, larger_rows(sheet))
 }

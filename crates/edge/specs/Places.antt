@@ -15,6 +15,15 @@ edge_places s q left right = record {
   right_in_right = column_place s q.right_columns right;
 }
 
+-- of the columns exchanged
+abbrev pub exchanged_places : EdgePlaces → EdgePlaces
+exchanged_places places = record {
+  left_in_left = places.right_in_left;
+  left_in_right = places.right_in_right;
+  right_in_left = places.left_in_left;
+  right_in_right = places.left_in_right;
+}
+
 -- the left input's before the right input's
 abbrev pub placed_distinct : List ℕ → Option ℕ → Option ℕ → Float
 placed_distinct s (Some on_left) on_right = (column_profile_at s on_left).distinct.value

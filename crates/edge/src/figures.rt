@@ -27,6 +27,7 @@ fn coverage(
 }
 
 // Domains that share no value.
+#[tactic(auto, unfolding(crate::specs::Figures::disjoint_estimate))]
 pub fn disjoint_estimate(x: EdgeInputs) -> EqualityEdgeEstimate
     ensures { result ≡ disjoint_estimate x }
 {
@@ -49,6 +50,7 @@ fn per_row(fraction: f64, rows: f64) -> f64
 }
 
 // A foreign key into a whole table.
+#[tactic(auto, unfolding(crate::specs::Figures::foreign_key_estimate))]
 pub fn foreign_key_estimate(x: EdgeInputs, right_rows: f64) -> EqualityEdgeEstimate
     ensures { result ≡ foreign_key_estimate x right_rows }
 {
@@ -60,6 +62,7 @@ pub fn foreign_key_estimate(x: EdgeInputs, right_rows: f64) -> EqualityEdgeEstim
     }
 }
 
+#[tactic(auto, unfolding(crate::specs::Figures::equal_non_null))]
 fn equal_non_null(x: EdgeInputs, intersection: f64) -> f64
     ensures { result ≡ equal_non_null x intersection }
 {
@@ -69,6 +72,7 @@ fn equal_non_null(x: EdgeInputs, intersection: f64) -> f64
     x.left_non_null * x.right_non_null * intersection / (x.left_distinct * x.right_distinct)
 }
 
+#[tactic(auto, unfolding(crate::specs::Figures::uniform_pair_selectivity))]
 fn uniform_pair_selectivity(x: EdgeInputs, intersection: f64) -> f64
     ensures { result ≡ uniform_pair_selectivity x intersection }
 {
@@ -79,6 +83,7 @@ fn uniform_pair_selectivity(x: EdgeInputs, intersection: f64) -> f64
     equal
 }
 
+#[tactic(auto, unfolding(crate::specs::Figures::uniform_non_null_match_probability))]
 fn uniform_non_null_match_probability(x: EdgeInputs, intersection: f64) -> f64
     ensures { result ≡ uniform_non_null_match_probability x intersection }
 {
@@ -98,6 +103,7 @@ fn at_least_uniform(option: Option<f64>, uniform: f64) -> f64
 }
 
 // Every other equality, with what sketches tell of the pair and of the match.
+#[tactic(auto, unfolding(crate::specs::Figures::overlap_estimate))]
 pub fn overlap_estimate(
     x: EdgeInputs,
     intersection: f64,

@@ -1,14 +1,16 @@
-// Where the columns of an equality stand in the sheet, looked up once for all that is asked of them.
+// Where the columns of a join stand in its two inputs, looked up once for all that is asked of them.
 ghost use Rattle.std.specs.Prelude.{◌≡◌};
 ghost use Rattle.lookup.specs.Lookup.{column_places};
 ghost use Rattle.edge.specs.Places.{edge_places, placed_distinct, placed_fraction};
 
-use lookup::places::place_of;
+use crate::EqualityEdge;
+use layout::COLUMN_LIMIT;
+use lookup::places::{column_places, place_of};
 use lookup::profiles::{distinct_at, frequency_at};
 use range::selectivity::non_null_fraction;
-use sheet::Sections;
+use sheet::View;
 
-// The places of the two columns in the inputs' lists.
+// The places of an equality's two columns in the inputs' lists.
 #[derive(Clone, Copy)]
 pub struct EdgePlaces {
     pub left_in_left: Option<u32>,
@@ -17,23 +19,53 @@ pub struct EdgePlaces {
     pub right_in_right: Option<u32>,
 }
 
-// By the places that were noted for the two lists.
-pub fn edge_places(
-    s: &[u8],
-    q: Sections,
-    on_left: &[Option<u32>],
-    on_right: &[Option<u32>],
-    left: u16,
-    right: u16,
-) -> EdgePlaces
-    requires { (on_left.now ≡ column_places s.now q.left_columns) × (on_right.now ≡ column_places s.now q.right_columns) }
-    ensures { result ≡ edge_places s.now q left right }
-{
-    EdgePlaces {
-        left_in_left: place_of(s, q.left_columns, on_left, left),
-        left_in_right: place_of(s, q.right_columns, on_right, left),
-        right_in_left: place_of(s, q.left_columns, on_left, right),
-        right_in_right: place_of(s, q.right_columns, on_right, right),
+// An edge of a sheet's join, and where its columns stand.
+#[derive(Clone, Copy)]
+pub struct PlacedEdge<'a> {
+    pub sheet: View<'a>,
+    pub edge: EqualityEdge,
+    pub places: EdgePlaces,
+    ghost placed: { places ≡ edge_places sheet.bytes.now sheet.sections edge.left edge.right },
+}
+
+// A sheet, and the places of all columns in the lists of its two inputs. Arrays, since the library has no heap.
+#[derive(Clone, Copy)]
+pub struct InputPlaces<'a> {
+    pub sheet: View<'a>,
+    on_left: [Option<u32>; COLUMN_LIMIT],
+    on_right: [Option<u32>; COLUMN_LIMIT],
+    ghost left_noted: { on_left ≡ column_places sheet.bytes.now sheet.sections.left_columns },
+    ghost right_noted: { on_right ≡ column_places sheet.bytes.now sheet.sections.right_columns },
+}
+
+impl<'a> InputPlaces<'a> {
+    pub fn of_sheet(sheet: View<'a>) -> InputPlaces<'a>
+        ensures { result.sheet ≡ sheet.entry }
+    {
+        InputPlaces {
+            sheet,
+            on_left: column_places(sheet.bytes, sheet.sections.left_columns),
+            on_right: column_places(sheet.bytes, sheet.sections.right_columns),
+        }
+    }
+
+    pub fn placed(&self, edge: EqualityEdge) -> PlacedEdge<'a>
+        ensures same_sheet { result.sheet ≡ self.now.sheet }
+        ensures same_edge { result.edge ≡ edge }
+    {
+        let s = self.sheet.bytes;
+        let left = self.sheet.sections.left_columns;
+        let right = self.sheet.sections.right_columns;
+        PlacedEdge {
+            sheet: self.sheet,
+            edge,
+            places: EdgePlaces {
+                left_in_left: place_of(s, left, &self.on_left, edge.left),
+                left_in_right: place_of(s, right, &self.on_right, edge.left),
+                right_in_left: place_of(s, left, &self.on_left, edge.right),
+                right_in_right: place_of(s, right, &self.on_right, edge.right),
+            },
+        }
     }
 }
 

@@ -1,10 +1,10 @@
 -- The bytes of coverages. Assumes nothing.
 use Prim.Native.Nat.{ℕ, suc, ◌+◌, ◌-◌, ◌*◌, ◌≤◌}
-use mathlib.Core.Path.{◌≡◌, refl, sym, ap, ◌∙◌, subst}
+use mathlib.Core.Path.{◌≡◌, refl, sym, ap, ◌∙◌}
 use mathlib.Core.List.{List, [], ◌∷◌, ◌++◌, append-nil, append_assoc}
 use native.Mathlib.Omega.{arith}
-use native.Mathlib.Nat.{add-zero, add_comm}
-use lib.ListN.{length, take, drop, length-append, length-drop, drop_of_length-le, take-append-drop}
+use native.Mathlib.Nat.{add_comm}
+use lib.ListN.{length, take, drop, length-append, length-drop, drop_of_length-le}
 use lib.Seq.{take_at, drop_at, take_all, drop-drop}
 use Rattle.float.specs.Integers.{bit}
 use Rattle.le.specs.Fields.{field_bytes, u16_bytes, onto}
@@ -62,32 +62,26 @@ coverages_append (c ∷ cs) b = ap (λ (l : List ℕ). coverage_bytes c ++ l) (c
 
 -- ---- coverages behind others
 
--- with how many there are then
-abbrev pub AppendedCount : ℕ → List LeftEqualityCoverage → List ℕ → ℕ → List ℕ → Type 0
-AppendedCount n cs out m after = (m ≡ n + length cs) × Appended n cs out after
+-- none, or one alone
+pub none_put : (out : List ℕ) → out ≡ onto (coverages_bytes []) out
+unfolding onto coverages_bytes
+none_put out = refl
 
-module _ (n : ℕ) (out : List ℕ) where
-  pub appended_none : AppendedCount n [] out n out
-  unfolding onto coverages_bytes
-  appended_none = (sym (add-zero n), sym (take-append-drop (coverage_size * n) out))
+pub one_put : (c : LeftEqualityCoverage) (out after : List ℕ) → after ≡ onto (coverage_bytes c) out → after ≡ onto (coverages_bytes (c ∷ [])) out
+unfolding coverages_bytes
+one_put c out after e = e ∙ ap (λ (bs : List ℕ). onto bs out) (sym (append-nil (coverage_bytes c)))
 
-  -- the part behind n coverages was lent and came back as Y
-  pub appended_one : (c : LeftEqualityCoverage) (m k at : ℕ) (Y : List ℕ) → m ≡ n + 1 → at ≡ coverage_size * n → k ≡ length out - at → Y ≡ onto (coverage_bytes c) (take k (drop at out)) → AppendedCount n (c ∷ []) out m (take at out ++ (Y ++ drop k (drop at out)))
-  unfolding onto coverages_bytes
-  appended_one c m k at Y e f g y =
-      let l = length-drop at out in
-      let room : length (drop at out) ≤ k = omega arith in
-      let whole : take k (drop at out) ≡ drop at out = take_all k (drop at out) room in
-      let none : drop k (drop at out) ≡ [] = drop_of_length-le (drop at out) room in
-      let back : Y ++ drop k (drop at out) ≡ onto (coverages_bytes (c ∷ [])) (drop at out)
-      = ap (λ (l : List ℕ). Y ++ l) none ∙ append-nil Y ∙ y ∙ ap (onto (coverage_bytes c)) whole ∙ ap (λ (bs : List ℕ). onto bs (drop at out)) (sym (append-nil (coverage_bytes c))) in
-      (e, ap (λ (l : List ℕ). take at out ++ l) back ∙ ap (λ (i : ℕ). take i out ++ onto (coverages_bytes (c ∷ [])) (drop i out)) f)
-
-pub appended_same : (n : ℕ) (cs ds : List LeftEqualityCoverage) (out after : List ℕ) → cs ≡ ds → Appended n cs out after → Appended n ds out after
-appended_same n cs ds out after e a = subst (λ (l : List LeftEqualityCoverage). Appended n l out after) e a
-
-pub appended_as : (n : ℕ) (cs ds : List LeftEqualityCoverage) (out : List ℕ) (m : ℕ) (after : List ℕ) → cs ≡ ds → AppendedCount n cs out m after → AppendedCount n ds out m after
-appended_as n cs ds out m after e a = subst (λ (l : List LeftEqualityCoverage). AppendedCount n l out m after) e a
+-- the part behind n coverages was lent and came back as Y
+pub appended_part : (n : ℕ) (out : List ℕ) (cs : List LeftEqualityCoverage) (k at : ℕ) (Y : List ℕ) → at ≡ coverage_size * n → k ≡ length out - at → Y ≡ onto (coverages_bytes cs) (take k (drop at out)) → Appended n cs out (take at out ++ (Y ++ drop k (drop at out)))
+unfolding onto
+appended_part n out cs k at Y f g y =
+    let l = length-drop at out in
+    let room : length (drop at out) ≤ k = omega arith in
+    let whole : take k (drop at out) ≡ drop at out = take_all k (drop at out) room in
+    let none : drop k (drop at out) ≡ [] = drop_of_length-le (drop at out) room in
+    let back : Y ++ drop k (drop at out) ≡ onto (coverages_bytes cs) (drop at out)
+    = ap (λ (l : List ℕ). Y ++ l) none ∙ append-nil Y ∙ y ∙ ap (onto (coverages_bytes cs)) whole in
+    ap (λ (l : List ℕ). take at out ++ l) back ∙ ap (λ (i : ℕ). take i out ++ onto (coverages_bytes cs) (drop i out)) f
 
 -- behind those that stand at the front
 pub appended_onto : (done cs : List LeftEqualityCoverage) (out₀ out after : List ℕ) (n m : ℕ) → out ≡ onto (coverages_bytes done) out₀ → n ≡ length done → m ≡ n + length cs → Appended n cs out after → (after ≡ onto (coverages_bytes (done ++ cs)) out₀) × (m ≡ length (done ++ cs))

@@ -8,6 +8,7 @@ use Rattle.equality_pairs.specs.declared.pairs.EqualityPair.{EqualityPair}
 use Rattle.equality_pairs.specs.NonNull.{is_marked}
 use Rattle.edge_order.specs.Sort.{sort}
 use Rattle.edge_order.specs.Order.{stands_before}
+use Rattle.edge_order.specs.declared.EdgeKey.{EdgeKey}
 use Rattle.edge.specs.declared.EqualityEdge.{EqualityEdge}
 
 -- where the left column is known to be non-null the edge is ordinary
@@ -29,6 +30,13 @@ equality_edge marks pair left_ndv right_ndv = record {
 unfoldable pub edge_of : EquivalenceClassState → List Bool → EqualityPair → EqualityEdge
 unfolding no_distinct equality_edge
 edge_of classes marks pair = equality_edge marks pair (class_distinct classes pair.left) (class_distinct classes pair.right)
+
+-- what an edge is ordered by
+abbrev pub edge_key : EqualityEdge → EdgeKey
+edge_key edge = record { distinct = edge.chosen_ndv.value; null_safe = edge.null_safe }
+
+abbrev pub edge_keys : EquivalenceClassState → List Bool → List EqualityPair → List EdgeKey
+edge_keys classes marks pairs = map (λ pair. edge_key (edge_of classes marks pair)) pairs
 
 abbrev pub edge_before : EqualityEdge → EqualityEdge → Bool
 edge_before a b = stands_before a.chosen_ndv.value a.null_safe b.chosen_ndv.value b.null_safe

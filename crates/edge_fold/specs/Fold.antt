@@ -75,6 +75,14 @@ unfolding with_edge
 with_edges sheet state [] = state
 with_edges sheet state (edge ∷ edges) = with_edges sheet (with_edge sheet state edge) edges
 
+-- before any edge
+abbrev pub no_edges : EquivalenceClassState → Folded
+no_edges classes = record { classes = classes; figures = no_equality; coverages = [] }
+
+-- the edges between the classes of a state, in their order
+abbrev pub folded_edges : Sheet → EquivalenceClassState → List Bool → List EqualityPair → Folded
+folded_edges sheet classes marks pairs = with_edges sheet (no_edges classes) (equality_edges classes marks pairs)
+
 -- ---- the whole
 
 -- the edges are ordered by the distincts of the profiles' classes, before any is taken up
@@ -82,4 +90,4 @@ unfoldable pub folded_pairs : Sheet → List EqualityPair → Folded
 unfolding from_profiles non_null_marks equality_edges with_edges
 folded_pairs sheet pairs =
     let classes = from_profiles sheet in
-    with_edges sheet (record { classes = classes; figures = no_equality; coverages = [] }) (equality_edges classes (non_null_marks pairs) pairs)
+    folded_edges sheet classes (non_null_marks pairs) pairs

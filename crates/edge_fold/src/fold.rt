@@ -1,19 +1,18 @@
 // What the edges of a join come to.
-ghost use Rattle.std.specs.Prelude.{◌≡◌, ◌+◌, ◌*◌, ◌≤◌, ◌<◌, length, option_to_list};
-ghost use Rattle.sheet.specs.Sheet.{sheet_of};
-ghost use Rattle.layout.specs.Places.{coverage_size, conjunct_limit};
-ghost use Rattle.edge.specs.Places.{edge_places};
+ghost use Rattle.std.specs.Prelude.{◌≡◌, ◌≤◌, length};
+ghost use Rattle.le.specs.Fields.{onto};
+ghost use Rattle.sheet.specs.Sheet.{viewed};
+ghost use Rattle.layout.specs.Places.{coverage_size};
 ghost use Rattle.edge_fold.specs.Fold.{zeroed, multiplied, with_estimate, coverage_unless, edge_figures, edge_coverages};
-ghost use Rattle.edge_fold.specs.Coverages.{Appended};
+ghost use Rattle.edge_fold.specs.Coverages.{coverages_bytes};
 
 use crate::coverages::put_coverage;
 use crate::sides::connects_places;
-use edge::places::EdgePlaces;
-use edge::{EqualityEdge, EqualityEdgeEstimate, LeftEqualityCoverage, equality_edge_estimate};
-use layout::COVERAGE_SIZE;
-use sheet::Sections;
+use edge::places::PlacedEdge;
+use edge::{EqualityEdgeEstimate, equality_edge_estimate};
 
-// The products over the edges so far, and whether one of them joined the two inputs.
+// The products over the edges so far, and whether one of them joined the two inputs. The source fixes the flag,
+// and it is compared with its.
 #[derive(Clone, Copy)]
 pub struct EqualityFigures {
     pub selectivity: f64,
@@ -21,14 +20,7 @@ pub struct EqualityFigures {
     pub has_cross_input_equality: bool,
 }
 
-// The figures, and how many coverages were written. They stand in the caller's memory, since the
-// library has no heap.
-#[derive(Clone, Copy)]
-pub struct EqualityTotals {
-    pub figures: EqualityFigures,
-    pub coverages: usize,
-}
-
+#[tactic(auto, unfolding(crate::specs::Fold::zeroed))]
 fn zeroed(disjoint: bool, figures: EqualityFigures) -> EqualityFigures
     ensures { result ≡ zeroed disjoint figures }
 {
@@ -36,12 +28,13 @@ fn zeroed(disjoint: bool, figures: EqualityFigures) -> EqualityFigures
         return EqualityFigures {
             selectivity: 0.0,
             match_probability: 0.0,
-            has_cross_input_equality: figures.has_cross_input_equality,
+            ..figures
         };
     }
     figures
 }
 
+#[tactic(auto, unfolding(crate::specs::Fold::multiplied))]
 fn multiplied(figures: EqualityFigures, estimate: EqualityEdgeEstimate) -> EqualityFigures
     ensures { result ≡ multiplied figures estimate }
 {
@@ -52,6 +45,7 @@ fn multiplied(figures: EqualityFigures, estimate: EqualityEdgeEstimate) -> Equal
     }
 }
 
+#[tactic(auto, unfolding(crate::specs::Fold::with_estimate))]
 fn with_estimate(
     figures: EqualityFigures,
     estimate: EqualityEdgeEstimate,
@@ -66,64 +60,43 @@ fn with_estimate(
     multiplied(before, estimate)
 }
 
-// Behind n coverages.
-fn append_coverage(coverage: Option<LeftEqualityCoverage>, n: usize, out: &mut [u8]) -> usize
-    requires { (n < conjunct_limit) × (coverage_size * (n + 1) ≤ length out.old) }
-    ensures value { result ≡ n + length (option_to_list coverage) }
-    ensures appended { Appended n (option_to_list coverage) out.old out.new }
+// How many coverages were put, none or one. The room is a clause: an array's type would ask more of callers.
+#[tactic(auto, using(crate::proofs::CoverageLaws::none_put, crate::proofs::CoverageLaws::one_put))]
+fn put_unless(same: bool, estimate: EqualityEdgeEstimate, out: &mut [u8]) -> usize
+    requires { coverage_size ≤ length out.old }
+    ensures value { result ≡ length (coverage_unless same estimate) }
+    ensures out_after { out.new ≡ onto (coverages_bytes (coverage_unless same estimate)) out.old }
 {
-    match coverage {
-        None => n,
+    if same {
+        return 0;
+    }
+    match estimate.left_coverage {
+        None => 0,
         Some(c) => {
-            put_coverage(&mut out[COVERAGE_SIZE * n..], c);
-            n + 1
+            put_coverage(out, c);
+            1
         }
     }
 }
 
-fn append_unless(same: bool, estimate: EqualityEdgeEstimate, n: usize, out: &mut [u8]) -> usize
-    requires { (n < conjunct_limit) × (coverage_size * (n + 1) ≤ length out.old) }
-    ensures value { result ≡ n + length (coverage_unless same estimate) }
-    ensures appended { Appended n (coverage_unless same estimate) out.old out.new }
-{
-    if same {
-        return n;
-    }
-    append_coverage(estimate.left_coverage, n, out)
-}
-
-fn with_edge_estimate(
-    totals: EqualityTotals,
-    estimate: EqualityEdgeEstimate,
+// One edge's part in the figures and the coverages, and how many coverages it put. An edge whose columns
+// stand in the same inputs has none. The room is a clause, as above.
+#[tactic(auto, using(crate::proofs::SideLaws::connects_is, crate::proofs::CoverageLaws::none_put), unfolding(crate::specs::Fold::edge_figures, crate::specs::Fold::edge_coverages))]
+pub fn add_edge(
+    placed: &PlacedEdge,
     same: bool,
+    figures: &mut EqualityFigures,
     out: &mut [u8],
-) -> EqualityTotals
-    requires { (totals.coverages < conjunct_limit) × (coverage_size * (totals.coverages + 1) ≤ length out.old) }
-    ensures value { result ≡ record { figures = with_estimate totals.figures estimate same; coverages = totals.coverages + length (coverage_unless same estimate) } }
-    ensures appended { Appended totals.coverages (coverage_unless same estimate) out.old out.new }
+) -> usize
+    requires { coverage_size ≤ length out.old }
+    ensures value { result ≡ length (edge_coverages (viewed placed.now.sheet) placed.now.edge same) }
+    ensures figures_after { figures.new ≡ edge_figures (viewed placed.now.sheet) figures.old placed.now.edge same }
+    ensures out_after { out.new ≡ onto (coverages_bytes (edge_coverages (viewed placed.now.sheet) placed.now.edge same)) out.old }
 {
-    let figures = with_estimate(totals.figures, estimate, same);
-    let coverages = append_unless(same, estimate, totals.coverages, out);
-    EqualityTotals { figures, coverages }
-}
-
-// One edge's part in the figures. An edge whose columns stand in the same inputs has none.
-pub fn edge_totals(
-    s: &[u8],
-    q: Sections,
-    totals: EqualityTotals,
-    edge: EqualityEdge,
-    places: EdgePlaces,
-    same: bool,
-    out: &mut [u8],
-) -> EqualityTotals
-    requires { ((totals.coverages < conjunct_limit) × (coverage_size * (totals.coverages + 1) ≤ length out.old)) × (places ≡ edge_places s.now q edge.left edge.right) }
-    ensures value { result ≡ record { figures = edge_figures (sheet_of s.now q) totals.figures edge same; coverages = totals.coverages + length (edge_coverages (sheet_of s.now q) edge same) } }
-    ensures appended { Appended totals.coverages (edge_coverages (sheet_of s.now q) edge same) out.old out.new }
-{
-    if connects_places(places) {
-        let estimate = equality_edge_estimate(s, q, edge, places);
-        return with_edge_estimate(totals, estimate, same, out);
+    if !connects_places(placed.places) {
+        return 0;
     }
-    totals
+    let estimate = equality_edge_estimate(placed);
+    *figures = with_estimate(*figures, estimate, same);
+    put_unless(same, estimate, out)
 }

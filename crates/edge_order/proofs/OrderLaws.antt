@@ -1,5 +1,6 @@
 -- Laws of the order of edges: the steps that make it, and what stands in it. Assumes nothing.
-use Rattle.std.proofs.Common.{◌≡◌, ℕ, zero, suc, ◌+◌, ◌-◌, ◌<◌, ◌≤◌, Bool, List, [], ◌∷◌, map, ◌++◌, length, get_or, take, drop, refl, sym, ap, ◌∙◌, arith, le_refl, append-nil, length-drop}
+use Rattle.std.proofs.Common.{◌≡◌, ℕ, zero, suc, ◌+◌, ◌-◌, ◌<◌, ◌≤◌, Bool, List, [], ◌∷◌, map, ◌++◌, length, get_or, take, drop, set, refl, sym, ap, ◌∙◌, arith, le_refl, append-nil, length-drop}
+use Rattle.std.specs.List.{prefix_len, copy_within}
 use Rattle.std.proofs.lemmas.Slice.{between_to_end}
 use borrow.Rule.Slice.PartMut.{put_mid}
 use mathlib.Core.List.{Memᴰ}
@@ -11,6 +12,7 @@ use Rattle.records.proofs.ListLaws.{tabulate_in, tabulate_step, tabulate_end}
 use Rattle.edge_order.specs.declared.EdgeKey.{EdgeKey}
 use Rattle.edge_order.specs.Sort.{insert, sort}
 use Rattle.edge_order.specs.Order.{no_key, key_before, number_before, edge_order}
+use Rattle.edge_order.proofs.PlaceLaws.{placed}
 use Rattle.edge_order.proofs.SortLaws.{sort_map_within}
 
 -- ---- a list from its a-th element on
@@ -72,10 +74,13 @@ module _ (before : ℕ → ℕ → Bool) (n : ℕ) where
 
 -- ---- what stands in it
 
--- told by their keys
-pub number_is : (keys : List EdgeKey) (i j : ℕ) (a b : EdgeKey) (r s : Bool) → a ≡ get_or keys i no_key → b ≡ get_or keys j no_key → r ≡ key_before a b → r ≡ s → number_before keys i j ≡ s
+-- one more number, put behind those whose keys stand before its own
+pub number_placed : (keys : List EdgeKey) (order after : List ℕ) (x n : ℕ) (key : EdgeKey) → 0 < length order → key ≡ get_or keys x no_key
+    → n ≡ prefix_len (λ (y : ℕ). key_before (get_or keys y no_key) key) (take (length order - 1) (drop 1 order))
+    → after ≡ copy_within order 1 (n + 1) 0
+    → set after n x ≡ insert (number_before keys) x (drop 1 order)
 unfolding number_before
-number_is keys i j a b r s e f g h = sym (λ t. key_before (e t) (f t)) ∙ sym g ∙ h
+number_placed keys order after x n key h e f g = placed (number_before keys) x order after n h (f ∙ λ k. prefix_len (λ (y : ℕ). key_before (get_or keys y no_key) (e k)) (behind 1 order k)) g
 
 module _ (keys : List EdgeKey) (n : ℕ) where
   -- edges that are told by their numbers are sorted as their numbers are

@@ -1,12 +1,12 @@
--- Laws of a loop that puts an element into the sorted rest of a list. Assumes nothing.
-use Prim.Native.Nat.{ℕ, zero, suc, ◌+◌, ◌<◌, ◌≤◌}
-use mathlib.Core.Path.{◌≡◌, refl, sym, ap, ◌∙◌}
+-- Laws of an element put into the sorted rest of a list. Assumes nothing.
+use Prim.Native.Nat.{ℕ, zero, suc, ◌+◌, ◌-◌, ◌<◌}
+use mathlib.Core.Path.{◌≡◌, refl, ap, ◌∙◌}
 use mathlib.Core.Bool.{Bool, true, false}
-use mathlib.Core.List.{List, [], ◌∷◌, ◌++◌, append_assoc}
+use mathlib.Core.List.{List, [], ◌∷◌, ◌++◌}
 use native.Mathlib.Omega.{arith}
-use native.Mathlib.Numerals.{add-one}
-use lib.ListN.{length, get_or, take, drop, set, drop_of_length-le}
-use lib.Seq.{take-suc-set, drop-set-lt, drop-cons, set_split}
+use native.Mathlib.Numerals.{one-add}
+use lib.ListN.{length, get_or, take, drop, set}
+use Rattle.std.specs.List.{prefix_len, copy_within}
 use Rattle.edge_order.specs.Sort.{insert}
 
 -- within a list, what stands for a missing element does not matter
@@ -22,61 +22,32 @@ get_or_within (x ∷ l) (suc i) d e h = get_or_within l i d e (less i (length l)
     less i n h = omega arith
 
 module _ {A : Type 0} (before : A → A → Bool) (x : A) where
-  insert_past : (y : A) (ys : List A) → before y x ≡ true → insert before x (y ∷ ys) ≡ y ∷ insert before x ys
+  abbrev count : List A → ℕ
+  count ys = prefix_len (λ (y : A). before y x) ys
+
+  -- those that stand before x, moved one place to the front, then x
+  moved : (first : A) (ys : List A) → set (take (count ys) ys ++ drop (count ys) (first ∷ ys)) (count ys) x ≡ insert before x ys
   unfolding insert
-  insert_past y ys h = rw h refl
-
-  insert_here : (y : A) (ys : List A) → before y x ≡ false → insert before x (y ∷ ys) ≡ x ∷ y ∷ ys
-  unfolding insert
-  insert_here y ys h = rw h refl
-
-  insert_last : insert before x [] ≡ x ∷ []
-  unfolding insert
-  insert_last = refl
-
-  stored : (order : List A) (j : ℕ) (a : A) → j < length order → set order j a ≡ take j order ++ a ∷ drop (j + 1) order
-  stored order j a l = rw add-one (set_split order j a l)
-
-  -- what stands before j, then x put into what stands behind it
-  unfoldable pub placing : List A → ℕ → List A
-  placing order j = take j order ++ insert before x (drop (j + 1) order)
-
-  -- nothing has moved yet
-  pub place_first : (order : List A) (at : ℕ) → placing order at ≡ take at order ++ insert before x (drop (at + 1) order)
-  unfolding placing
-  place_first order at = refl
-
-  -- y stands before x: it moves
-  pub place_past : (order : List A) (j : ℕ) (d y : A) → j + 1 < length order → y ≡ get_or order (j + 1) d → before y x ≡ true → placing (set order j y) (j + 1) ≡ placing order j
-  unfolding placing
-  place_past order j d y l is t =
-      ap (λ (p : List A). p ++ insert before x (drop (j + 1 + 1) (set order j y))) moved
-      ∙ append_assoc (take j order) (y ∷ []) (insert before x (drop (j + 1 + 1) (set order j y)))
-      ∙ ap (λ (r : List A). take j order ++ r)
-      (ap (λ (r : List A). y ∷ insert before x r) (drop-set-lt (j + 1 + 1) order j y (omega arith))
-      ∙ sym (insert_past y (drop (j + 1 + 1) order) t)
-      ∙ ap (insert before x) (ap (λ (z : A). z ∷ drop (j + 1 + 1) order) is ∙ ap (λ (n : ℕ). get_or order (j + 1) d ∷ drop n order) (add-one (j + 1)) ∙ sym (drop-cons order (j + 1) d l)))
+  moved first [] = refl
+  moved first (y ∷ ys) = at (before y x) refl (moved y ys)
     where
-      moved : take (j + 1) (set order j y) ≡ take j order ++ (y ∷ [])
-      moved = rw add-one (take-suc-set order j y (omega arith))
+      at : (b : Bool) → before y x ≡ b → set (take (count ys) ys ++ drop (count ys) (y ∷ ys)) (count ys) x ≡ insert before x ys
+          → set (take (count (y ∷ ys)) (y ∷ ys) ++ drop (count (y ∷ ys)) (first ∷ y ∷ ys)) (count (y ∷ ys)) x ≡ insert before x (y ∷ ys)
+      at true e rest = rw (e, one-add) (ap (λ (l : List A). y ∷ l) rest)
+      at false e rest = rw e refl
 
-  -- y does not: x stands in front of it
-  pub place_here : (order : List A) (j : ℕ) (d y : A) → j + 1 < length order → y ≡ get_or order (j + 1) d → before y x ≡ false → set order j x ≡ placing order j
-  unfolding placing
-  place_here order j d y l is t =
-      stored order j x (omega arith)
-      ∙ ap (λ (r : List A). take j order ++ r)
-      (ap (λ (r : List A). x ∷ r) rest ∙ sym (insert_here (get_or order (j + 1) d) (drop (suc (j + 1)) order) (ap (λ (z : A). before z x) (sym is) ∙ t)) ∙ ap (insert before x) (sym rest))
+  pub placed : (order after : List A) (n : ℕ) → 0 < length order → n ≡ count (drop 1 order) → after ≡ copy_within order 1 (n + 1) 0 → set after n x ≡ insert before x (drop 1 order)
+  placed [] after n h e f = absurd (none h)
     where
-      rest : drop (j + 1) order ≡ get_or order (j + 1) d ∷ drop (suc (j + 1)) order
-      rest = drop-cons order (j + 1) d l
+      none : 0 < 0 → ⊥
+      none h = omega arith
+  placed (first ∷ ys) after n h e f =
+      ap (λ (l : List A). set l n x) (f ∙ (λ k. take (same k) ys ++ drop (also k) (first ∷ ys)))
+      ∙ ap (λ (k : ℕ). set (take k ys ++ drop k (first ∷ ys)) k x) e
+      ∙ moved first ys
+    where
+      same : n + 1 - 1 ≡ n
+      same = omega arith
 
-  -- nothing is left behind j
-  pub place_last : (order : List A) (j : ℕ) → j < length order → length order ≤ j + 1 → set order j x ≡ placing order j
-  unfolding placing
-  place_last order j l m =
-      stored order j x l
-      ∙ ap (λ (r : List A). take j order ++ r) (ap (λ (r : List A). x ∷ r) none ∙ sym insert_last ∙ ap (insert before x) (sym none))
-    where
-      none : drop (j + 1) order ≡ []
-      none = drop_of_length-le order m
+      also : 0 + (n + 1 - 1) ≡ n
+      also = omega arith

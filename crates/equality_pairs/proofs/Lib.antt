@@ -1,3 +1,4 @@
+pub mod PaddedLaws
 pub mod NonNullLaws
 pub mod PairLaws
 pub mod MarkedLaws

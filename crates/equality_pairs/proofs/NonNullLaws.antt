@@ -38,11 +38,9 @@ module _ (marks : List Bool) (pair : EqualityPair) (x y : Bool) (left : x ≡ is
   extends_uneven e = ap not (sym e ∙ (λ i. beq (left i) (right i)))
 
   -- one of the two
-  pub extended_uneven : (out out' : List Bool) → beq x y ≡ false → out ≡ set marks pair.left true → out' ≡ set out pair.right true → out' ≡ extended marks pair
-  unfolding with_both
-  extended_uneven out out' e f g =
-      g
-      ∙ ap (λ (l : List Bool). set l pair.right true) f
+  pub extended_uneven : (out : List Bool) → beq x y ≡ false → out ≡ with_both marks pair → out ≡ extended marks pair
+  extended_uneven out e f =
+      f
       ∙ ap (λ (b : Bool). cond b (with_both marks pair) marks) (sym (one x y e) ∙ (λ i. left i || right i))
     where
       one : (x y : Bool) → beq x y ≡ false → x || y ≡ true
@@ -62,9 +60,13 @@ module _ (pairs : List EqualityPair) (marks : List Bool) (i : ℕ) where
   unfolding pass
   pass_end h = ap (pass marks) (sym (drop_of_length-le pairs h))
 
-  pub extends_end : (changed : Bool) → length pairs ≤ i → changed ≡ (pass_extends marks (drop i pairs) || changed)
+  pub extends_end : (changed : Bool) → length pairs ≤ i → changed ≡ (changed || pass_extends marks (drop i pairs))
   unfolding pass_extends
-  extends_end changed h = ap (λ (l : List EqualityPair). pass_extends marks l || changed) (sym (drop_of_length-le pairs h))
+  extends_end changed h = none changed ∙ ap (λ (l : List EqualityPair). changed || pass_extends marks l) (sym (drop_of_length-le pairs h))
+    where
+      none : (b : Bool) → b ≡ (b || false)
+      none true = refl
+      none false = refl
 
   module _ (d pair : EqualityPair) (out : List Bool) (h : i < length pairs) (is : pair ≡ get_or pairs i d) where
     next : pair ∷ drop (i + 1) pairs ≡ drop i pairs
@@ -78,24 +80,18 @@ module _ (pairs : List EqualityPair) (marks : List Bool) (i : ℕ) where
     unfolding pass
     pass_next e = ap (λ (m : List Bool). pass m (drop (i + 1) pairs)) e ∙ ap (pass marks) next
 
-    -- what the pairs from the i-th on extend, or those before it did
-    pub extends_next : (changed changed' : Bool) → out ≡ extended marks pair → changed' ≡ (extends marks pair || changed)
-        → (pass_extends out (drop (i + 1) pairs) || changed') ≡ (pass_extends marks (drop i pairs) || changed)
+    -- what the pairs before the i-th extended, or those from it on do
+    pub extends_next : (changed extending : Bool) → out ≡ extended marks pair → extending ≡ extends marks pair
+        → ((changed || extending) || pass_extends out (drop (i + 1) pairs)) ≡ (changed || pass_extends marks (drop i pairs))
     unfolding pass_extends
-    extends_next changed changed' e f =
-        (λ k. pass_extends (e k) (drop (i + 1) pairs) || f k)
-        ∙ turned (extends marks pair) (pass_extends (extended marks pair) (drop (i + 1) pairs)) changed
-        ∙ ap (λ (l : List EqualityPair). pass_extends marks l || changed) next
+    extends_next changed extending e f =
+        (λ k. (changed || f k) || pass_extends (e k) (drop (i + 1) pairs))
+        ∙ grouped changed (extends marks pair) (pass_extends (extended marks pair) (drop (i + 1) pairs))
+        ∙ ap (λ (l : List EqualityPair). changed || pass_extends marks l) next
       where
-        turned : (a b c : Bool) → (b || (a || c)) ≡ ((a || b) || c)
-        turned true true c = refl
-        turned true false c = refl
-        turned false b c = refl
-
--- before the first pair none has extended any marks
-pub extends_first : (b : Bool) → (b || false) ≡ b
-extends_first true = refl
-extends_first false = refl
+        grouped : (a b c : Bool) → ((a || b) || c) ≡ (a || (b || c))
+        grouped true b c = refl
+        grouped false b c = refl
 
 -- a pass that extends no marks leaves them
 pub pass_same : (marks : List Bool) (pairs : List EqualityPair) → pass_extends marks pairs ≡ false → pass marks pairs ≡ marks

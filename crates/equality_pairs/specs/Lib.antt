@@ -1,3 +1,4 @@
+pub mod Padded
 pub mod Pairs
 pub mod NonNull
 pub mod Cases

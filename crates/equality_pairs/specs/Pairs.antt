@@ -1,7 +1,5 @@
 -- The pairs of columns that conjuncts equate (`equality_pairs` in the source's analysis.rs). Definitions only.
-use Rattle.std.specs.Prelude.{ℕ, ◌-◌, Bool, false, List, [], ◌∷◌, ◌++◌, length, get_or, replicate, Option, option_map, option_to_list}
-use Rattle.layout.specs.Places.{conjunct_limit}
-use Rattle.records.specs.Lists.{tabulate}
+use Rattle.std.specs.Prelude.{ℕ, Bool, false, List, [], ◌∷◌, ◌++◌, Option, option_map, option_to_list}
 use Rattle.records.specs.declared.expressions.Expression.{Expression}
 use Rattle.records.specs.declared.expressions.Expression.TheVariants.{Binary}
 use Rattle.sheet.specs.Sheet.{Sheet}
@@ -9,7 +7,6 @@ use Rattle.lookup.specs.Lookup.{expression_of}
 use Rattle.parts.specs.Parts.{is_null_safe, column_equality}
 use Rattle.parts.specs.declared.equalities.EqualColumns.{EqualColumns}
 use Rattle.equality_pairs.specs.declared.pairs.EqualityPair.{EqualityPair}
-use Rattle.equality_pairs.specs.declared.pairs.EqualityPairs.{EqualityPairs}
 
 -- whether the expression is itself one under which two nulls are equal
 abbrev pub null_safe_in : Expression → Bool
@@ -28,18 +25,3 @@ unfoldable pub equality_pairs : Sheet → List ℕ → List EqualityPair
 unfolding equality_pair
 equality_pairs sheet [] = []
 equality_pairs sheet (e ∷ es) = option_to_list (equality_pair sheet e) ++ equality_pairs sheet es
-
--- ---- pairs in so many places as a join may have conjuncts
-
-abbrev pub no_pair : EqualityPair
-no_pair = record { left = 0; right = 0; null_safe = false }
-
--- from the first place on; the places behind hold no pair
-abbrev pub pairs_of : List EqualityPair → EqualityPairs
-pairs_of pairs = record { pairs = pairs ++ replicate (conjunct_limit - length pairs) no_pair; count = length pairs }
-
-abbrev pub pair_at : EqualityPairs → ℕ → EqualityPair
-pair_at pairs i = get_or pairs.pairs i no_pair
-
-abbrev pub pairs_in : EqualityPairs → List EqualityPair
-pairs_in pairs = tabulate (pair_at pairs) pairs.count

@@ -10,11 +10,11 @@ use layout::COLUMN_LIMIT;
 use selection::{Test, put_selected, selected_count};
 
 #[derive(Clone, Copy)]
-struct Marked<'a> {
+struct IsMarked<'a> {
     marks: &'a [bool],
 }
 
-impl Test for Marked<'_> {
+impl Test for IsMarked<'_> {
     ghost test = { λ it. is_marked it.marks.now };
 
     fn passes(&self, n: u16) -> bool {
@@ -22,17 +22,33 @@ impl Test for Marked<'_> {
     }
 }
 
-pub fn marked_count(marks: &[bool]) -> usize
-    ensures { result ≡ length (marked_columns marks.now) }
-{
-    selected_count(&Marked { marks }, COLUMN_LIMIT as u16)
+// The marks, and how many columns they mark: counted once, for the length of an answer and for its bytes.
+#[derive(Clone, Copy)]
+pub struct Marked<'a> {
+    pub marks: &'a [bool],
+    pub count: usize,
+    pub ghost counted: { count ≡ length (marked_columns marks.now) },
 }
 
-// All of them, where it is known how many there are.
-pub fn put_marked(marks: &[bool], count: usize, out: &mut [u8]) -> usize
-    requires { (count ≡ length (marked_columns marks.now)) × (number_size * length (marked_columns marks.now) ≤ length out.old) }
-    ensures value { result ≡ number_size * length (marked_columns marks.now) }
-    ensures out_after { out.new ≡ onto (numbers_bytes (marked_columns marks.now)) out.old }
+impl<'a> Marked<'a> {
+    #[tactic(auto, unfolding(crate::specs::NonNull::marked_columns))]
+    pub fn of(marks: &'a [bool]) -> Marked<'a>
+        ensures { (result.marks.now ≡ marks.now) × (result.count ≡ length (marked_columns marks.now)) }
+    {
+        let count = selected_count(&IsMarked { marks }, COLUMN_LIMIT as u16);
+        Marked { marks, count }
+    }
+}
+
+// All of them.
+#[tactic(auto, unfolding(crate::specs::NonNull::marked_columns))]
+pub fn put_marked(marked: &Marked, out: &mut [u8]) -> usize
+    requires { number_size * length (marked_columns marked.now.marks.now) ≤ length out.old }
+    ensures value { result ≡ number_size * length (marked_columns marked.now.marks.now) }
+    ensures out_after { out.new ≡ onto (numbers_bytes (marked_columns marked.now.marks.now)) out.old }
 {
-    put_selected(&Marked { marks }, COLUMN_LIMIT as u16, count, out)
+    let test = IsMarked {
+        marks: marked.marks,
+    };
+    put_selected(&test, COLUMN_LIMIT as u16, marked.count, out)
 }

@@ -37,15 +37,15 @@ use Rattle.estimate.specs.declared.EstimateSource.TheVariants.{Exact, Catalog, S
 
 -- ---- bounds as options
 
-bound_back : (x : Option Float) → then_some (is_some x) (unwrap_or x f64_zero) ≡ x
-bound_back None = refl
-bound_back (Some x) = refl
+option_back : (x : Option Float) → then_some (is_some x) (unwrap_or x f64_zero) ≡ x
+option_back None = refl
+option_back (Some x) = refl
 
 pub lower_back : (value : Float) (lower upper : Option Float) (source : EstimateSource) → lower_bound (estimate_of value lower upper source) ≡ lower
-lower_back value lower upper source = bound_back lower
+lower_back value lower upper source = option_back lower
 
 pub upper_back : (value : Float) (lower upper : Option Float) (source : EstimateSource) → upper_bound (estimate_of value lower upper source) ≡ upper
-upper_back value lower upper source = bound_back upper
+upper_back value lower upper source = option_back upper
 
 -- ---- the two bytes at the front
 
@@ -101,9 +101,9 @@ kept : (b : Bool) (n : ℕ) → ask b (suc n) ≡ 0 → T b
 kept true n e = tt
 kept false n e = let z : suc n ≡ 0 = e in omega arith
 
-bits_back : (p : Bool) (s : List ℕ) (at : ℕ) → Bytes s → bound_refusal p s at ≡ 0 → option_bits (option_at p s at) ≡ u64_at s at
-bits_back true s at b e = figure_back s at b (kept (figure_lawful (f64_at s at)) 3 e)
-bits_back false s at b e = sym (eqb-true (u64_at s at) 0 (is_true (eqb (u64_at s at) 0) (kept (eqb (u64_at s at) 0) 5 e)))
+bound_back : (p : Bool) (s : List ℕ) (at : ℕ) → Bytes s → bound_refusal p s at ≡ 0 → option_bits (option_at p s at) ≡ u64_at s at
+bound_back true s at b e = figure_back s at b (kept (figure_lawful (f64_at s at)) 3 e)
+bound_back false s at b e = sym (eqb-true (u64_at s at) 0 (is_true (eqb (u64_at s at) 0) (kept (eqb (u64_at s at) 0) 5 e)))
 
 bound_lawful : (p : Bool) (s : List ℕ) (at : ℕ) → bound_refusal p s at ≡ 0 → LawfulBound (is_some (option_at p s at)) (unwrap_or (option_at p s at) f64_zero)
 bound_lawful true s at e = record { held = of_bits-fits binary64 (u64_at s at); lawful = kept (figure_lawful (f64_at s at)) 3 e }
@@ -176,8 +176,8 @@ estimate_written s at b h e =
     (byte_back _ s at (source_back (byte_at s at) k.source) (omega arith)
     and byte_back _ s (at + 1) flags (omega arith)
     and word_back _ s (at + 2) (figure_back s (at + 2) b k.value) b (omega arith)
-    and word_back _ s (at + 10) (ap option_bits (bound_back (option_at lower s (at + 10))) ∙ bits_back lower s (at + 10) b k.lower) b (omega arith)
-    and word_back _ s (at + 18) (ap option_bits (bound_back (option_at upper s (at + 18))) ∙ bits_back upper s (at + 18) b k.upper) b (omega arith)
+    and word_back _ s (at + 10) (ap option_bits (option_back (option_at lower s (at + 10))) ∙ bound_back lower s (at + 10) b k.lower) b (omega arith)
+    and word_back _ s (at + 18) (ap option_bits (option_back (option_at upper s (at + 18))) ∙ bound_back upper s (at + 18) b k.upper) b (omega arith)
     and tt)
 
 -- ---- the order: two are the same where their bytes are
@@ -225,9 +225,14 @@ option_bits_small p x h = let f = option_figure p x h in let l = to_bits-lt bina
 given_at : (x : Float) (s : List ℕ) (k : ℕ) → T (fits binary64 x) → u64_at s k ≡ to_bits binary64 x → f64_at s k ≡ x
 given_at x s k h u = ap (of_bits binary64) u ∙ of_bits-to_bits binary64 x h
 
-bound_read : (q p : Bool) (x : Float) (s : List ℕ) (k : ℕ) → q ≡ p → LawfulBound p x → u64_at s k ≡ option_bits (then_some p x) → unwrap_or (option_at q s k) f64_zero ≡ x
-bound_read q true x s k e h u = ap (λ (b : Bool). unwrap_or (option_at b s k) f64_zero) e ∙ given_at x s k h.held u
-bound_read q false x s k e h u = ap (λ (b : Bool). unwrap_or (option_at b s k) f64_zero) e ∙ sym h
+bound_read : (p : Bool) (x : Option Float) (s : List ℕ) (k : ℕ) → p ≡ is_some x → LawfulBound (is_some x) (unwrap_or x f64_zero) → u64_at s k ≡ option_bits x → option_at p s k ≡ x
+bound_read p (Some x) s k e h u = ap (λ (b : Bool). option_at b s k) e ∙ ap Some (given_at x s k h.held u)
+bound_read p None s k e h u = ap (λ (b : Bool). option_at b s k) e
+
+-- its number, by the flag and the number that were written
+number_read : (q p : Bool) (x : Float) (s : List ℕ) (k : ℕ) → q ≡ p → LawfulBound p x → u64_at s k ≡ option_bits (then_some p x) → unwrap_or (option_at q s k) f64_zero ≡ x
+number_read q true x s k e h u = ap (λ (o : Option Float). unwrap_or o f64_zero) (bound_read q (Some x) s k e h u)
+number_read q false x s k e h u = ap (λ (o : Option Float). unwrap_or o f64_zero) (bound_read q None s k e refl u) ∙ sym h
 
 bound_kept : (q p : Bool) (x : Float) (s : List ℕ) (k : ℕ) → q ≡ p → LawfulBound p x → u64_at s k ≡ option_bits (then_some p x) → bound_refusal q s k ≡ 0
 bound_kept q true x s k e h u =
@@ -268,8 +273,8 @@ estimate_read x s t at h e =
     let source = ap source_of r.source ∙ (source_known x.source).1 in
     let lower_flag = lower_flag (byte_at s (at + 1)) in
     let upper_flag = upper_flag (byte_at s (at + 1)) in
-    let lower = bound_read lower_flag x.has_lower x.lower s (at + 10) r.lower_flag h.lower r.lower in
-    let upper = bound_read upper_flag x.has_upper x.upper s (at + 18) r.upper_flag h.upper r.upper in
+    let lower = number_read lower_flag x.has_lower x.lower s (at + 10) r.lower_flag h.lower r.lower in
+    let upper = number_read upper_flag x.has_upper x.upper s (at + 18) r.upper_flag h.upper r.upper in
     let has_lower = present_is lower_flag s (at + 10) ∙ r.lower_flag in
     let has_upper = present_is upper_flag s (at + 18) ∙ r.upper_flag in
     λ i. record { value = r.value i; lower = lower i; upper = upper i; has_lower = has_lower i; has_upper = has_upper i; source = source i }

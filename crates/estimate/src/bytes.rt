@@ -1,4 +1,5 @@
-// The bytes of an estimate: source, flags, value, lower, upper.
+// The bytes of an estimate: source, flags, value, lower, upper. That `at < 2 ^ 62` says that the places of its fields
+// fit a usize; each sum is a new place, so a type that held the bound would owe it anew.
 ghost use Rattle.std.specs.Prelude.{◌≡◌, ◌≤◌, ◌<◌, ◌^◌, length};
 ghost use Rattle.le.specs.Fields.{onto};
 ghost use Rattle.rules.specs.Rules.{outcome_number};
@@ -70,17 +71,16 @@ fn option_at(present: bool, s: &[u8], at: usize) -> Option<f64>
 }
 
 // The estimate at a place, whatever the bytes are.
+#[tactic(auto, unfolding(crate::specs::Bytes::estimate_at))]
 pub fn estimate_at(s: &[u8], at: usize) -> Estimate
     requires { at < 2 ^ 62 }
     ensures { result ≡ estimate_at s.now at }
 {
     let flags = byte_at(s, at + ESTIMATE_FLAGS_OFFSET);
-    let lower = lower_flag(flags);
-    let upper = upper_flag(flags);
     estimate_of(
         f64_at(s, at + ESTIMATE_VALUE_OFFSET),
-        option_at(lower, s, at + ESTIMATE_LOWER_OFFSET),
-        option_at(upper, s, at + ESTIMATE_UPPER_OFFSET),
+        option_at(lower_flag(flags), s, at + ESTIMATE_LOWER_OFFSET),
+        option_at(upper_flag(flags), s, at + ESTIMATE_UPPER_OFFSET),
         EstimateSource::from(byte_at(s, at)),
     )
 }
@@ -108,11 +108,14 @@ pub fn estimate_refusal(s: &[u8], at: usize) -> Result<(), Refusal>
     requires { at < 2 ^ 62 }
     ensures { outcome_number result ≡ estimate_refusal s.now at }
 {
+    // By the number: `From` gives every number a source.
     ask(byte_at(s, at) <= 4, Refusal::Code)?;
     let flags = byte_at(s, at + ESTIMATE_FLAGS_OFFSET);
     ask(flags <= 3, Refusal::Code)?;
-    let value = f64_at(s, at + ESTIMATE_VALUE_OFFSET);
-    ask(figure_lawful(value), Refusal::Figure)?;
+    ask(
+        figure_lawful(f64_at(s, at + ESTIMATE_VALUE_OFFSET)),
+        Refusal::Figure,
+    )?;
     bound_refusal(lower_flag(flags), s, at + ESTIMATE_LOWER_OFFSET)?;
     bound_refusal(upper_flag(flags), s, at + ESTIMATE_UPPER_OFFSET)
 }
@@ -136,10 +139,10 @@ pub fn put_estimate(out: &mut [u8], e: Estimate)
     put_f64(&mut out[ESTIMATE_VALUE_OFFSET..], e.value);
     put_u64(
         &mut out[ESTIMATE_LOWER_OFFSET..],
-        option_bits(Estimate::lower_bound(e)),
+        option_bits(e.lower_bound()),
     );
     put_u64(
         &mut out[ESTIMATE_UPPER_OFFSET..],
-        option_bits(Estimate::upper_bound(e)),
+        option_bits(e.upper_bound()),
     );
 }

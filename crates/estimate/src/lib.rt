@@ -18,6 +18,7 @@ pub enum EstimateSource {
 }
 
 // The form is document 01's: a bound is a flag and a number, which is +0 where there is none.
+// No options inside: they make it half as large again, and a state holds 128.
 #[derive(Clone, Copy)]
 pub struct Estimate {
     pub value: f64,
@@ -67,6 +68,7 @@ fn lowered(value: f64, upper: Option<f64>) -> f64
     }
 }
 
+#[tactic(auto, unfolding(crate::specs::Estimates::clamp_to_bounds))]
 pub fn clamp_to_bounds(value: f64, lower: Option<f64>, upper: Option<f64>) -> f64
     ensures { result ≡ clamp_to_bounds value lower upper }
 {
@@ -74,12 +76,14 @@ pub fn clamp_to_bounds(value: f64, lower: Option<f64>, upper: Option<f64>) -> f6
 }
 
 impl Estimate {
+    #[tactic(auto, unfolding(crate::specs::Estimates::exact))]
     pub fn exact(value: f64) -> Estimate
         ensures { result ≡ exact value }
     {
         estimate_of(value, Some(value), Some(value), EstimateSource::Exact)
     }
 
+    #[tactic(auto, unfolding(crate::specs::Estimates::derived))]
     pub fn derived(value: f64, lower: Option<f64>, upper: Option<f64>) -> Estimate
         ensures { result ≡ derived value lower upper }
     {
@@ -91,6 +95,7 @@ impl Estimate {
         )
     }
 
+    #[tactic(auto, unfolding(crate::specs::Estimates::default))]
     pub fn default(value: f64) -> Estimate
         ensures { result ≡ default value }
     {
@@ -109,6 +114,7 @@ impl Estimate {
         self.has_upper.then_some(self.upper)
     }
 
+    #[tactic(auto, unfolding(crate::specs::Estimates::max_by_value))]
     pub fn max_by_value(self, other: Estimate) -> Estimate
         ensures { result ≡ max_by_value self other }
     {
@@ -119,6 +125,7 @@ impl Estimate {
         }
     }
 
+    #[tactic(auto, unfolding(crate::specs::Estimates::min_by_value))]
     pub fn min_by_value(self, other: Estimate) -> Estimate
         ensures { result ≡ min_by_value self other }
     {

@@ -12,6 +12,7 @@ use expression_answer::{Predicate, Split, answer_expression};
 use join_answer::answer_join;
 
 // The estimate of an expression as a predicate: 26 bytes.
+#[tactic(auto, unfolding(expression_answer::specs::Predicate::predicate_result))]
 pub fn predicate(sheet: &[u8], expression: u16, out: &mut [u8]) -> Answer
     ensures { Comes (predicate_result sheet.now expression) out.old (answer_of result) out.new }
 {
@@ -19,6 +20,7 @@ pub fn predicate(sheet: &[u8], expression: u16, out: &mut [u8]) -> Answer
 }
 
 // The conjuncts of an expression: how many, and their numbers.
+#[tactic(auto, unfolding(expression_answer::specs::Split::split_result))]
 pub fn split(sheet: &[u8], expression: u16, out: &mut [u8]) -> Answer
     ensures { Comes (split_result sheet.now expression) out.old (answer_of result) out.new }
 {
@@ -33,7 +35,9 @@ pub fn join(sheet: &[u8], out: &mut [u8]) -> Answer
 }
 
 // The answers as one number, a length or 2^32 plus the refusal's number. The crate estimates_c exports these to
-// other languages: a slice passes as a pointer and a length, and `out` must share no byte with the sheet.
+// other languages: a slice passes as a pointer and a length, and `out` must share no byte with the sheet. C has no
+// generics: there is one function for each entry. They stand here too: no crate can stand on a static library, and
+// `demand` calls these.
 #[unsafe(no_mangle)]
 pub extern "C" fn estimates_predicate(sheet: &[u8], expression: u16, out: &mut [u8]) -> u64
     ensures value { result ≡ answer_number (answered (predicate_result sheet.now expression) out.old) }

@@ -1,5 +1,6 @@
 // The entries of `estimates` for programs in other languages. A slice passes as a pointer and a length,
-// and `out` must share no byte with the sheet.
+// and `out` must share no byte with the sheet. C has no generics: there is one function for each entry.
+// They stand in `estimates` too: no crate can stand on this static library, and `demand` calls those.
 #![tactic(auto)]
 
 ghost use Rattle.std.specs.Prelude.{◌≡◌};

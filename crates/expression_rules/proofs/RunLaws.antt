@@ -1,52 +1,54 @@
 -- Laws of operand runs: for the loop that looks for an operand's expression, and for what it finds. Assumes nothing.
-use Prim.Native.Nat.{ℕ, zero, suc, ◌+◌, ◌-◌, ◌≤◌, ◌<◌}
+use Prim.Native.Nat.{ℕ, zero, suc, ◌+◌, ◌-◌, ◌*◌, ◌≤◌, ◌<◌}
 use mathlib.Core.Path.{◌≡◌, refl, sym, ap, ◌∙◌, subst}
 use mathlib.Core.Bool.{Bool, true, false, cond, ◌&&◌, false≢true}
+use mathlib.Core.Logic.{inl, inr}
 use mathlib.Core.List.{List}
 use native.Mathlib.Omega.{arith}
-use native.Mathlib.Nat.{add-zero, zero-add}
+use native.Mathlib.Nat.{add-zero, zero-add, eq-or-lt_of_le}
 use lib.Dec.{ltb, leb}
+use Rattle.std.specs.Prelude.{Option, Some, None, unwrap_or}
+use Rattle.std.specs.Option.{MatchOption}
+use Rattle.std.specs.List.{sum_by, range_with_len}
+use Rattle.std.proofs.lemmas.List.Sums.{sum_by-cons}
+use Rattle.le.proofs.FieldLaws.{Bytes, field_below}
 use borrow.Author.Tests.{ltb-true, ltb-false, le-ltb, le-leb}
 use Rattle.le.specs.Fields.{u16_at}
 use Rattle.expression_rules.specs.Operands.{expression_place, is_nary, run_length, runs_before, run_holds, first_holding, nary_from, nary_of, RunsFollow}
 
--- ---- the loop that stands at the f-th of n, where the rest gives t, as all of them do
-
-holding_more : (s : List ℕ) (x i f n : ℕ) → 0 < n → first_holding s x i f n ≡ cond (run_holds s x i f) f (first_holding s x i (f + 1) (n - 1))
-unfolding first_holding
-holding_more s x i f zero h = absurd (none h)
-  where
-    none : 0 < 0 → ⊥
-    none h = omega arith
-holding_more s x i f (suc n) h = ap (λ (k : ℕ). cond (run_holds s x i f) f (first_holding s x i (f + 1) k)) (one n)
-  where
-    one : (n : ℕ) → n ≡ suc n - 1
-    one n = omega arith
+-- ---- the first that holds an operand
 
 holding_end : (s : List ℕ) (x i f n : ℕ) → n ≡ 0 → first_holding s x i f n ≡ f
 unfolding first_holding
 holding_end s x i f n e = rw e refl
 
--- a loop that looks for it stands at the f-th of n
-module _ (s : List ℕ) (x i f n : ℕ) where
-  holding_by : f < n → first_holding s x i f (n - f) ≡ cond (run_holds s x i f) f (first_holding s x i (f + 1) (n - (f + 1)))
-  holding_by l =
-      let h : 0 < n - f = omega arith in
-      let k : n - f - 1 ≡ n - (f + 1) = omega arith in
-      holding_more s x i f (n - f) h ∙ ap (λ (m : ℕ). cond (run_holds s x i f) f (first_holding s x i (f + 1) m)) k
+-- ---- what a search for it finds, from the e-th of n on
 
-  pub holding_next : f < n → run_holds s x i f ≡ false → first_holding s x i f (n - f) ≡ first_holding s x i (f + 1) (n - (f + 1))
-  holding_next l e = holding_by l ∙ ap (λ (b : Bool). cond b f (first_holding s x i (f + 1) (n - (f + 1)))) e
+module _ (s : List ℕ) (x i : ℕ) where
+  abbrev Passed : ℕ → ℕ → Type 0
+  Passed e f = (k : ℕ) → e ≤ k → k < f → run_holds s x i k ≡ false
 
-  pub holding_found : f < n → run_holds s x i f ≡ true → first_holding s x i f (n - f) ≡ f
-  holding_found l e = holding_by l ∙ ap (λ (b : Bool). cond b f (first_holding s x i (f + 1) (n - (f + 1)))) e
+  pub search_found : (e n f : ℕ) → Passed e f → e ≤ f → f < e + n → run_holds s x i f ≡ true → first_holding s x i e n ≡ f
+  unfolding first_holding
+  search_found e zero f p l h t = absurd (omega arith)
+  search_found e (suc n) f p l h t = elim (eq-or-lt_of_le l) [
+    | inl same ↦ rw (same, t) refl
+    | inr less ↦ rw (p e (omega arith) less) (search_found (e + 1) n f (λ k a b. p k (omega arith) b) (omega arith) (omega arith) t)
+  ]
 
-  pub holding_none : n ≤ f → first_holding s x i f (n - f) ≡ f
-  holding_none l =
-      let k : n - f ≡ 0 = omega arith in
-      holding_end s x i f (n - f) k
+  pub search_none : (e n : ℕ) → Passed e (e + n) → first_holding s x i e n ≡ e + n
+  unfolding first_holding
+  search_none e zero p = sym (add-zero e)
+  search_none e (suc n) p =
+      let one : e + 1 + n ≡ e + suc n = omega arith in
+      rw (p e (omega arith) (omega arith)) (search_none (e + 1) n (λ k a b. p k (omega arith) (omega arith)) ∙ one)
 
-pub ruleset holding_steps = (holding_next, holding_found, holding_none)
+  -- by what the search gives
+  pub holding_search : (e n : ℕ) (r : Option ℕ) → e ≤ n → MatchOption r ((k : ℕ) → e ≤ k → k < n → run_holds s x i k ≡ false) (λ f. (e ≤ f) × (f < n) × (run_holds s x i f ≡ true) × ((k : ℕ) → e ≤ k → k < f → run_holds s x i k ≡ false)) → unwrap_or r n ≡ first_holding s x i e (n - e)
+  holding_search e n (Some f) l m = sym (search_found e (n - e) f m.3 m.0 (omega (arith, m.1)) m.2)
+  holding_search e n None l m =
+      let whole : e + (n - e) ≡ n = omega arith in
+      sym (search_none e (n - e) (λ k a b. m k a (omega arith)) ∙ whole)
 
 -- ---- how many operands there are before an expression
 
@@ -59,6 +61,34 @@ runs_step s x i = ap (runs_before s x) (one i) ∙ runs_next s x i
   where
     one : (i : ℕ) → i + 1 ≡ suc i
     one i = omega arith
+
+-- as a sum, each run having fewer than 2 ^ 16 operands
+module _ (s : List ℕ) (x : ℕ) where
+  abbrev pub run_of : ℕ → ℕ
+  run_of e = run_length s (expression_place x e)
+
+  sum_more : (i n : ℕ) → sum_by run_of (range_with_len i (suc n)) ≡ sum_by run_of (range_with_len i n) + run_of (i + n)
+  sum_more i zero = ap (λ (k : ℕ). 0 + run_of k) (sym (add-zero i))
+  sum_more i (suc n) =
+      let all = sum_by-cons run_of i (range_with_len (i + 1) (suc n)) in
+      let rest = sum_by-cons run_of i (range_with_len (i + 1) n) in
+      let more = sum_more (i + 1) n in
+      let last : run_of (i + 1 + n) ≡ run_of (i + suc n) = ap run_of (omega arith) in
+      all ∙ omega arith ∙ ap (λ (m : ℕ). m + run_of (i + suc n)) (sym rest)
+
+  pub runs_sum : (n : ℕ) → sum_by run_of (range_with_len 0 n) ≡ runs_before s x n
+  unfolding runs_before
+  runs_sum zero = refl
+  runs_sum (suc n) = sum_more 0 n ∙ (ap (λ (k : ℕ). sum_by run_of (range_with_len 0 n) + run_of k) (zero-add n) ∙ ap (λ (m : ℕ). m + run_of n) (runs_sum n))
+
+  pub runs_few : Bytes s → (n : ℕ) → runs_before s x n ≤ 65535 * n
+  unfolding runs_before
+  runs_few b zero = omega arith
+  runs_few b (suc n) = let few = runs_few b n in let one = run_few (is_nary s (expression_place x n)) _ (field_below 2 s (expression_place x n + 4) b) in omega arith
+    where
+      run_few : (t : Bool) (v : ℕ) → v < 65536 → cond t v 0 ≤ 65535
+      run_few true v h = omega arith
+      run_few false v h = omega arith
 
 -- ---- where the owner of an operand is
 

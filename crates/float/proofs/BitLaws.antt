@@ -1,14 +1,21 @@
 -- The bit patterns of binary64: the sign, the field of the exponent, and 52 digits. Assumes nothing.
-use Rattle.std.proofs.Common.{◌≡◌, ℕ, zero, suc, ◌+◌, ◌*◌, ◌/◌, ◌%◌, ◌^◌, ◌<◌, ◌≤◌, Bool, true, false, cond, not, T, eqb, ltb, leb, sym, refl, ap, ◌∙◌, subst, inl, inr, lt_of_lt_of_le, lt_of_le_of_lt, lt_irrefl, mod-eq_of_lt, zero-lt-suc, div-lt_iff_lt-mul, mul-le-mul, eq-or-lt_of_le, pow-suc, not-le_of_lt, arith, lit<, eqb→eq, lt→ltb, leb→le, pow_mono}
+use Rattle.std.proofs.Common.{◌≡◌, ℕ, zero, suc, ◌+◌, ◌*◌, ◌/◌, ◌%◌, ◌^◌, ◌<◌, ◌≤◌, Bool, true, false, cond, not, T, eqb, ltb, leb, sym, refl, ap, ◌∙◌, subst, inl, inr, lt_of_lt_of_le, lt_of_le_of_lt, lt_irrefl, mod-eq_of_lt, zero-lt-suc, div-lt_iff_lt-mul, mul-le-mul, eq-or-lt_of_le, pow-suc, not-le_of_lt, arith, lit<, eqb→eq, lt→ltb, leb→le, pow_mono, lt-ltb}
+use mathlib.Core.Bool.{false≢true}
 use lib.Dec.{not_T}
 use lib.Arith.{le→nltb}
 use lib.Count.{count_trailing_zeros, under}
-use lib.Ieee.{nan, inf, fin, binary64, minus, odd, units, of_fields, of_bits, nan_bits}
-use lib.Ieee.Bits.{is_false, cond_no, nan_bits_above}
+use lib.Ieee.{Float, nan, inf, fin, binary64, minus, odd, units, of_fields, of_bits, nan_bits, is_nan}
+use lib.Ieee.Bits.{is_false, cond_no, nan_bits_is, nan_bits_above}
 
 pub of_bits_is : (b : ℕ) → of_bits binary64 b ≡ of_fields binary64 (leb 0x8000_0000_0000_0000 b) (b % 0x8000_0000_0000_0000 / 0x10_0000_0000_0000) (b % 0x10_0000_0000_0000)
 unfolding of_bits
 of_bits_is b = refl
+
+is_nan_law : (x : Float) → is_nan x ≡ true → x ≡ nan
+unfolding is_nan
+is_nan_law nan h = refl
+is_nan_law (inf s) h = absurd (false≢true h)
+is_nan_law (fin s m e) h = absurd (false≢true h)
 
 differ : (x : ℕ) → suc x < 2047 → suc x ≡ 2047 → ⊥
 differ x h e = omega arith
@@ -47,6 +54,9 @@ subnormal b e = plus b (tiny b e) ∙ ap (λ (y : ℕ). of_fields binary64 false
 -- ---- which patterns are a NaN's
 pub no_nan : (b : ℕ) → b % 0x8000_0000_0000_0000 ≤ 0x7ff0_0000_0000_0000 → T (not (nan_bits binary64 b))
 no_nan b h = subst (λ (t : Bool). T (not t)) (sym (nan_bits_above binary64 b)) (le→nltb 0x7ff0_0000_0000_0000 (b % 0x8000_0000_0000_0000) h)
+
+pub nan_bits_law : (b : ℕ) → 0x7ff0_0000_0000_0000 < b % 0x8000_0000_0000_0000 → of_bits binary64 b ≡ nan
+nan_bits_law b h = is_nan_law (of_bits binary64 b) (sym (nan_bits_is binary64 b) ∙ nan_bits_above binary64 b ∙ lt-ltb 0x7ff0_0000_0000_0000 (b % 0x8000_0000_0000_0000) h)
 
 -- ---- a place more than a number has changes no count of closing zeros
 half_pos : (q : ℕ) → 0 < q → q % 2 ≡ 0 → 0 < q / 2

@@ -1,6 +1,9 @@
--- Laws of `plus_zero`: +0 is the float whose pattern is 0. Assumes nothing.
-use Rattle.std.proofs.Common.{◌≡◌, ℕ, zero, suc, Bool, true, false, T, eqb, sym, refl, ap, ◌∙◌, subst, eqb→eq}
-use lib.Ieee.{Float, nan, inf, fin, binary64, fits, of_bits, to_bits}
+-- Laws of `plus_zero`: +0 is the float whose pattern is 0; and of the library's ranges of floats. Assumes nothing.
+use Rattle.std.proofs.Common.{◌≡◌, ℕ, zero, suc, Bool, true, false, cond, ◌||◌, T, eqb, sym, refl, ap, ◌∙◌, subst, eqb→eq}
+use Rattle.std.specs.Prelude.{Some, None}
+use Rattle.std.proofs.Common.{Less, Equal, Greater}
+use Rattle.std.specs.Ordering.{is_some_and, is_le, partial_le, float_partial_cmp}
+use lib.Ieee.{Float, nan, inf, fin, binary64, fits, lt, eq, le, of_bits, to_bits}
 use lib.Ieee.Bits.{of_bits-to_bits}
 use Rattle.float.specs.Order.{f64_zero}
 use Rattle.float.specs.Ranges.{plus_zero}
@@ -36,3 +39,15 @@ plus_zero_bits x h = go (eqb (to_bits binary64 x) 0) (plus_zero x) (λ t. subst 
     go true false f g = absurd (f tt)
     go false true f g = absurd (g tt)
     go false false f g = refl
+
+-- ---- ranges
+
+pub ordered_le : (x y : Float) → partial_le float_partial_cmp x y ≡ le x y
+unfolding le
+ordered_le x y = go (lt x y) (eq x y) (lt y x)
+  where
+    go : (a b c : Bool) → is_some_and is_le (cond a (Some Less) (cond b (Some Equal) (cond c (Some Greater) None))) ≡ (a || b)
+    go true b c = refl
+    go false true c = refl
+    go false false true = refl
+    go false false false = refl

@@ -11,7 +11,7 @@ pub fn nearest_i64(x: i64) -> f64
     std::num::nearest_i64_to_f64(x)
 }
 
-// `u8::from`, in the words of `bit`.
+// `u8::from`, with `bit` in its contract. Other crates may call it by this name, so it stays.
 pub fn one_if(b: bool) -> u8
     ensures { result ≡ bit b }
 {

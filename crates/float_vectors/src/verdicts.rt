@@ -1,5 +1,5 @@
 // Whether a record's expected bits are those that the crates compute.
-#![tactic(auto, unfolding(crate::specs::Verdicts::value_of, crate::specs::Verdicts::case_of, crate::specs::Verdicts::agrees_with))]
+#![tactic(auto, unfolding(crate::specs::Verdicts::case_of, crate::specs::Verdicts::agrees_with))]
 
 ghost use Rattle.std.specs.Prelude.{◌≡◌};
 ghost use Rattle.float_vectors.specs.Verdicts.{value_of, case_of, agrees};
@@ -46,7 +46,9 @@ impl From<&Record> for Case {
     }
 }
 
-// `power_of_ten` gives 10^22 for every exponent from 22 on.
+// By the kind: a trait with a type for each would be longer. `power_of_ten` gives 10^22 for every exponent
+// from 22 on.
+#[tactic(auto, using(crate::proofs::TenLaws::to_22), unfolding(crate::specs::Verdicts::value_of))]
 fn value_of(kind: Kind, a: u64, b: u64) -> f64
     ensures { result ≡ value_of kind a b }
 {

@@ -21,6 +21,7 @@ pub struct Ends<T> {
 // Four ends of one type, by the type.
 #[derive(Clone, Copy)]
 pub enum ScalarEnds {
+    // No Option round the others in its place: of unlike types there are no ends at all.
     NoWidth,
     Integers(Ends<i64>),
     Floats(Ends<f64>),
@@ -32,12 +33,10 @@ fn discrete(ends: Ends<i64>) -> Option<f64>
 {
     let width = nearest_difference(ends.interval.upper, ends.interval.lower, true);
     let overlap = nearest_difference(ends.overlap.upper, ends.overlap.lower, true);
-    if 0.0 < width {
-        return Some(clamp_unit(overlap / width));
-    }
-    None
+    (0.0 < width).then_some(clamp_unit(overlap / width))
 }
 
+#[tactic(auto, unfolding(crate::specs::Fraction::continuous))]
 fn continuous(ends: Ends<f64>) -> Option<f64>
     ensures { result ≡ continuous ends }
 {
@@ -52,6 +51,7 @@ fn continuous(ends: Ends<f64>) -> Option<f64>
     Some(clamp_unit(overlap / width))
 }
 
+#[tactic(auto, unfolding(crate::specs::Fraction::decimal))]
 fn decimal(ends: Ends<i64>) -> Option<f64>
     ensures { result ≡ decimal ends }
 {
@@ -88,13 +88,11 @@ fn typed_ends<T: Copy>(
 fn widthless_ends(upper: bool, overlap_lower: bool, overlap_upper: bool) -> Option<ScalarEnds>
     ensures { result ≡ widthless_ends upper overlap_lower overlap_upper }
 {
-    if upper && overlap_lower && overlap_upper {
-        return Some(ScalarEnds::NoWidth);
-    }
-    None
+    (upper && overlap_lower && overlap_upper).then_some(ScalarEnds::NoWidth)
 }
 
 // No shorter with the reader lent: each arm would have to say what its reader computes.
+#[tactic(auto, unfolding(crate::specs::Fraction::scalar_ends))]
 fn scalar_ends(interval: Interval<Scalar>, overlap: Interval<Scalar>) -> Option<ScalarEnds>
     ensures { result ≡ scalar_ends interval.lower interval.upper overlap.lower overlap.upper }
 {
@@ -163,6 +161,7 @@ fn scalar_ends(interval: Interval<Scalar>, overlap: Interval<Scalar>) -> Option<
     }
 }
 
+#[tactic(auto, unfolding(crate::specs::Fraction::ends_fraction))]
 fn ends_fraction(ends: ScalarEnds) -> Option<f64>
     ensures { result ≡ ends_fraction ends }
 {
@@ -174,6 +173,7 @@ fn ends_fraction(ends: ScalarEnds) -> Option<f64>
     }
 }
 
+#[tactic(auto, unfolding(crate::specs::Fraction::scalar_interval_fraction))]
 pub fn scalar_interval_fraction(
     interval: Interval<Scalar>,
     overlap: Interval<Scalar>,

@@ -27,6 +27,7 @@ fn overlapping(distinct: f64) -> DistinctIntersection
 }
 
 // One upper bound strictly below the other lower one.
+#[tactic(auto, unfolding(crate::specs::Intersection::disjoint))]
 fn disjoint(left: Interval<Scalar>, right: Interval<Scalar>) -> bool
     ensures { result ≡ disjoint left right }
 {
@@ -35,6 +36,7 @@ fn disjoint(left: Interval<Scalar>, right: Interval<Scalar>) -> bool
 }
 
 // No plainer as one function of the order: the laws would need a word for "this order".
+#[tactic(auto, unfolding(crate::specs::Intersection::overlap_lower))]
 fn overlap_lower(left: Scalar, right: Scalar) -> Scalar
     ensures { result ≡ overlap_lower left right }
 {
@@ -44,6 +46,7 @@ fn overlap_lower(left: Scalar, right: Scalar) -> Scalar
     left
 }
 
+#[tactic(auto, unfolding(crate::specs::Intersection::overlap_upper))]
 fn overlap_upper(left: Scalar, right: Scalar) -> Scalar
     ensures { result ≡ overlap_upper left right }
 {
@@ -71,7 +74,8 @@ fn at_least_point(point: bool, estimate: f64) -> f64
     estimate
 }
 
-// The distincts stay apart, as in the source: they go with fractions, intervals and profiles.
+// The distincts stay apart: they go with fractions, with intervals and with profiles.
+#[tactic(auto, unfolding(crate::specs::Intersection::shared_distinct))]
 fn shared_distinct(
     left: Option<f64>,
     right: Option<f64>,
@@ -89,6 +93,7 @@ fn shared_distinct(
     at_least_point(point, f64_min(parts, smaller))
 }
 
+#[tactic(auto, unfolding(crate::specs::Intersection::overlap_distinct))]
 fn overlap_distinct(
     left: Interval<Scalar>,
     right: Interval<Scalar>,
@@ -110,6 +115,7 @@ fn overlap_distinct(
     )
 }
 
+#[tactic(auto, unfolding(crate::specs::Intersection::bounded_intersection))]
 fn bounded_intersection(
     left: Interval<Scalar>,
     right: Interval<Scalar>,
@@ -127,6 +133,7 @@ fn bounded_intersection(
     overlapping(overlap_distinct(left, right, left_distinct, right_distinct))
 }
 
+#[tactic(auto, unfolding(crate::specs::Intersection::zipped_intersection))]
 fn zipped_intersection(
     left: Option<Interval<Scalar>>,
     right: Option<Interval<Scalar>>,
@@ -141,6 +148,7 @@ fn zipped_intersection(
     bounded_intersection(x, y, left_distinct, right_distinct)
 }
 
+#[tactic(auto, unfolding(crate::specs::Intersection::estimated_distinct_intersection))]
 pub fn estimated_distinct_intersection(
     left: ColumnProfile,
     right: ColumnProfile,

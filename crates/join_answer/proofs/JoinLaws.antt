@@ -1,11 +1,12 @@
 -- The bytes of a join's answer: how many there are, and that what the join hands out gives them. Assumes nothing.
-use Prim.Native.Nat.{ℕ, ◌+◌, ◌-◌, ◌*◌, ◌≤◌}
+use Prim.Native.Nat.{ℕ, ◌+◌, ◌-◌, ◌*◌, ◌/◌, ◌≤◌}
 use mathlib.Core.Path.{◌≡◌, sym, ap, ◌∙◌}
+use mathlib.Core.Bool.{Bool}
 use mathlib.Core.List.{List, ◌++◌}
 use native.Mathlib.Omega.{arith}
 use lib.Ieee.{Float}
 use lib.ListN.{length, take, drop, length-append, length-map}
-use lib.Seq.{take_at}
+use lib.Seq.{take_at, length-take-le}
 use Rattle.le.specs.Fields.{field_bytes, u16_bytes, onto}
 use Rattle.le.proofs.FieldLaws.{bytes_length}
 use Rattle.le.proofs.OntoLaws.{onto_part, onto_length}
@@ -152,6 +153,15 @@ module _ (sheet : Sheet) (conjuncts : List ℕ) (r : Joined) (e : r ≡ joined s
         let z = coverages_size_law in
         omega arith
 
+    abbrev pub cut : List ℕ
+    cut = take (coverage_size * r.coverages) bytes
+
+    pub cut_length : length cut ≡ coverage_size * r.coverages
+    cut_length = length-take-le (coverage_size * r.coverages) bytes coverages_within
+
+    cut_count : length cut / coverage_size ≡ length j.left_equality_coverages
+    cut_count = let k = cut_length in let n = coverages_are in omega arith
+
     module _ (counts : List ℕ) (c : counts ≡ tabulate (member_count r.classes.roots) column_limit) (n : ℕ) (f : n ≡ returned_count counts) where
       abbrev in_front : List ℕ
       in_front = front r.selectivity r.match_probability r.residual_selectivity n
@@ -160,7 +170,7 @@ module _ (sheet : Sheet) (conjuncts : List ℕ) (r : Joined) (e : r ≡ joined s
       classes = classes_bytes (into_classes r.classes)
 
       abbrev behind : List ℕ
-      behind = counted r.coverages (take (coverage_size * r.coverages) bytes) ++ counted_numbers (marked_columns r.marks)
+      behind = counted (length cut / coverage_size) cut ++ counted_numbers (marked_columns r.marks)
 
       -- the parts as they are put give the join's bytes
       parts_are : (in_front ++ classes) ++ behind ≡ join_bytes j
@@ -169,7 +179,7 @@ module _ (sheet : Sheet) (conjuncts : List ℕ) (r : Joined) (e : r ≡ joined s
           let count : n ≡ length j.equivalence_classes = f ∙ class_count_law counts c ∙ ap length classes_are in
           λ i.
           ((counted 1 (figures_are i) ++ u16_bytes (count i)) ++ classes_bytes (classes_are i))
-          ++ (counted (coverages_are i) (coverages_front i) ++ counted_numbers (columns_are i))
+          ++ (counted (cut_count i) (coverages_front i) ++ counted_numbers (columns_are i))
 
       -- a slice holds the figures and the count at its front, then gets the classes behind them, then the rest
       module _ (lent X Y : List ℕ) (k : ℕ) (room : length (join_bytes j) ≤ length lent) (x : X ≡ onto in_front lent) (l : k ≡ length X - first_class_offset) (y : Y ≡ onto classes (take k (drop first_class_offset X))) where
@@ -185,11 +195,12 @@ module _ (sheet : Sheet) (conjuncts : List ℕ) (r : Joined) (e : r ≡ joined s
         pub classes_put_length : length with_classes ≡ length lent
         classes_put_length = let a = all_length in ap length classes_put ∙ onto_length (in_front ++ classes) lent (omega arith)
 
-        pub all_put : (Z : List ℕ) (at m : ℕ) → at ≡ first_class_offset + counts_size counts → m ≡ length with_classes - at → Z ≡ onto behind (take m (drop at with_classes)) → take at with_classes ++ (Z ++ drop m (drop at with_classes)) ≡ onto (join_bytes j) lent
-        all_put Z at m a g z =
+        pub all_put : (marks : List Bool) (Z : List ℕ) (at m : ℕ) → marks ≡ r.marks → at ≡ first_class_offset + counts_size counts → m ≡ length with_classes - at
+            → Z ≡ onto (counted (length cut / coverage_size) cut ++ counted_numbers (marked_columns marks)) (take m (drop at with_classes)) → take at with_classes ++ (Z ++ drop m (drop at with_classes)) ≡ onto (join_bytes j) lent
+        all_put marks Z at m are a g z =
             let d = length-append in_front classes in
             let f = front_length r.selectivity r.match_probability r.residual_selectivity n in
             let s = classes_size_law r.classes in
             let u = counts_size_law r.classes.roots counts c in
             let w = all_length in
-            onto_part (in_front ++ classes) behind lent with_classes Z at m (omega arith) g (omega arith) classes_put z ∙ ap (λ (bs : List ℕ). onto bs lent) parts_are
+            onto_part (in_front ++ classes) behind lent with_classes Z at m (omega arith) g (omega arith) classes_put (z ∙ ap (λ (ms : List Bool). onto (counted (length cut / coverage_size) cut ++ counted_numbers (marked_columns ms)) (take m (drop at with_classes))) are) ∙ ap (λ (bs : List ℕ). onto bs lent) parts_are

@@ -1,9 +1,9 @@
 -- The sheet's conjuncts: read one by one into what is lent, and how many an accepted sheet has. Assumes nothing.
 use Prim.Native.Nat.{ℕ, ◌+◌, ◌*◌, ◌≤◌, ◌<◌}
 use mathlib.Core.Path.{◌≡◌, refl, sym, ap, ◌∙◌}
-use mathlib.Core.List.{List}
+use mathlib.Core.List.{List, ◌++◌}
 use native.Mathlib.Omega.{arith}
-use lib.ListN.{length, take, set}
+use lib.ListN.{length, take, drop, set}
 use lib.Seq.{take_all}
 use Rattle.le.specs.Fields.{onto, u16_at}
 use Rattle.layout.specs.Places.{conjunct_limit, count_size, number_size}
@@ -15,7 +15,7 @@ use Rattle.sheet.specs.declared.order.Kind.TheVariants.{Conjuncts}
 use Rattle.sheet.proofs.PlaceLaws.{conjuncts_fixed}
 use Rattle.sheet.proofs.SheetLaws.{records_length, fixed_record_at}
 use Rattle.sheet.proofs.AcceptedLaws.{accepted, accepted_within}
-use Rattle.join_parts.proofs.CopyLaws.{copied_next}
+use Rattle.join_parts.proofs.CopyLaws.{copied_next, copied_front}
 
 -- those of the section at `start`
 abbrev pub conjuncts_at : List ℕ → ℕ → List ℕ
@@ -30,11 +30,12 @@ pub conjuncts_count : (s : List ℕ) (q : Sections) → u16_at s q.conjuncts ≡
 unfolding conjuncts_of
 conjuncts_count s q = sym (records_length Conjuncts u16_at s q.conjuncts)
 
-pub conjuncts_all : (s : List ℕ) (q : Sections) (out X : List ℕ) (n i : ℕ) → n ≡ u16_at s q.conjuncts → n ≤ i → X ≡ onto (take i (conjuncts_at s q.conjuncts)) out → (n ≡ length (conjuncts_of s q)) × (X ≡ onto (conjuncts_of s q) out)
+pub conjuncts_all : (s : List ℕ) (q : Sections) (out X : List ℕ) (n i : ℕ) → n ≡ u16_at s q.conjuncts → n ≤ i → X ≡ onto (take i (conjuncts_at s q.conjuncts)) (take n out)
+    → X ++ drop n out ≡ onto (conjuncts_of s q) out
 unfolding conjuncts_of
 conjuncts_all s q out X n i f h e =
     let l = records_length Conjuncts u16_at s q.conjuncts in
-    (f ∙ conjuncts_count s q, e ∙ ap (λ (cs : List ℕ). onto cs out) (take_all i (conjuncts_at s q.conjuncts) (omega arith)))
+    copied_front (conjuncts_at s q.conjuncts) out X n (f ∙ conjuncts_count s q) (e ∙ ap (λ (cs : List ℕ). onto cs (take n out)) (take_all i (conjuncts_at s q.conjuncts) (omega arith)))
 
 -- those of an accepted sheet, by where its sections stand
 pub own_conjuncts : (s : List ℕ) (c : Checked) (q : Sections) → c ≡ check s → c ≡ Accepted q → conjuncts_of s q ≡ conjuncts_in s

@@ -1,19 +1,17 @@
 -- The parts of a join's answer: how they are put one after the other, and how long they are. Assumes nothing.
-use Prim.Native.Nat.{ℕ, ◌+◌, ◌-◌, ◌*◌, ◌≤◌}
+use Prim.Native.Nat.{ℕ, ◌-◌, ◌≤◌}
 use mathlib.Core.Path.{◌≡◌, refl, ap, ◌∙◌}
 use mathlib.Core.List.{List, ◌++◌}
 use lib.Ieee.{Float}
 use lib.ListN.{length, take, drop}
-use lib.Seq.{length-take-le}
 use Rattle.le.specs.Fields.{field_bytes, u16_bytes, onto}
 use Rattle.le.specs.Floats.{f64_bytes}
 use Rattle.le.proofs.FieldLaws.{bytes_length}
 use Rattle.le.proofs.OntoLaws.{onto_part}
-use Rattle.layout.specs.Places.{count_size, coverage_size, figures_size}
+use Rattle.layout.specs.Places.{count_size, figures_size}
 use Rattle.estimate.specs.Bytes.{estimate_bytes}
 use Rattle.estimate.specs.declared.Estimate.{Estimate}
 use Rattle.number_bytes.specs.Numbers.{counted}
-use Rattle.number_bytes.proofs.NumberLaws.{counted_length}
 use Rattle.join_parts.specs.Parts.{figures_bytes}
 
 -- ---- the parts one after the other
@@ -35,6 +33,3 @@ figures_joined a b x = refl
 pub figures_length : (a b : Estimate) (x : Float) → length (figures_bytes a b x) ≡ figures_size
 unfolding figures_bytes estimate_bytes field_bytes
 figures_length a b x = refl
-
-pub coverages_part_length : (n : ℕ) (bytes : List ℕ) → coverage_size * n ≤ length bytes → length (counted n (take (coverage_size * n) bytes)) ≡ count_size + coverage_size * n
-coverages_part_length n bytes h = counted_length n (take (coverage_size * n) bytes) ∙ ap (λ (k : ℕ). count_size + k) (length-take-le (coverage_size * n) bytes h)

@@ -29,7 +29,7 @@ fn put_reply(sheet: &[u8], out: &mut [u8]) -> usize
     match estimates::join(sheet, out) {
         Ok(n) => n,
         Err(refusal) => {
-            put_refusal(out, refusal.number());
+            put_refusal(out, u8::from(refusal));
             2
         }
     }

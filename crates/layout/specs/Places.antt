@@ -50,9 +50,17 @@ number_size = 2
 abbrev pub float_size : ℕ
 float_size = 8
 
+-- a column, a table or a sketch that is not there
+abbrev pub no_number : ℕ
+no_number = 0xffff
+
 -- a count of rows or values
 abbrev pub wide_size : ℕ
 wide_size = 8
+
+-- so many rows as nobody knows
+abbrev pub unknown_count : ℕ
+unknown_count = 0xffff_ffff_ffff_ffff
 
 -- ---- an estimate
 

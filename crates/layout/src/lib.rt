@@ -39,8 +39,14 @@ pub const NUMBER_SIZE: usize = 2;
 
 pub const FLOAT_SIZE: usize = 8;
 
+// A column, a table or a sketch that is not there.
+pub const NO_NUMBER: u16 = u16::MAX;
+
 // A count of rows or values.
 pub const WIDE_SIZE: usize = 8;
+
+// So many rows as nobody knows.
+pub const UNKNOWN_COUNT: u64 = u64::MAX;
 
 // ---- an estimate
 

@@ -62,7 +62,8 @@ fn cut_at(s: &[u8], at: usize, n: usize) -> u64
     u64::from_le_bytes(padded(&rest[..n.min(rest.len())]))
 }
 
-// Four bytes that are there, and eight.
+// Four bytes that are there, and eight: a loop over items tests once, in front of it, that they are. Two and no generic
+// one: `from_le_bytes` is no trait's.
 pub fn quad_at(s: &[u8], at: usize) -> u64
     requires { at + 4 ≤ length s.now }
     ensures { (result ≡ u32_at s.now at) × (result < 2 ^ 32) }

@@ -12,6 +12,7 @@ fn put<const N: usize>(out: &mut [u8], bytes: [u8; N])
     out[..N].copy_from_slice(&bytes);
 }
 
+// One function a width, each one line over `put`: a generic function would need a trait that holds the same lines.
 pub fn put_byte(out: &mut [u8], v: u8)
     requires { 1 ≤ length out.old }
     ensures { out.new ≡ onto (v ∷ []) out.old }

@@ -5,20 +5,18 @@ use mathlib.Core.Bool.{Bool, true, false, cond}
 use mathlib.Core.List.{List, ◌∷◌}
 use native.Mathlib.Omega.{arith}
 use native.Mathlib.Nat.{add-zero, zero-add, sub-zero}
-use borrow.Author.Tests.{ltb-true, ltb-false}
-use lib.Dec.{eqb, ltb}
+use borrow.Author.Tests.{ltb-true, ltb-false, lt-ltb, le-ltb}
+use lib.Dec.{ltb}
 use lib.Ieee.{Float}
 use Rattle.std.specs.Prelude.{Option, None, Some, option_map}
 use Rattle.std.specs.Option.{option_or}
 use lib.ListN.{length, take, drop, get_or-eq_default}
 use Rattle.le.specs.Fields.{byte_at, u16_at}
-use Rattle.layout.specs.Places.{number_size, column_size, expression_size, expression_op_offset, expression_first_offset, expression_second_offset, expression_scalar_offset}
-use Rattle.scalar_bytes.specs.Reading.{scalar_at}
+use Rattle.layout.specs.Places.{number_size, column_size, expression_size}
 use Rattle.records.specs.Lists.{tabulate_from}
 use Rattle.records.specs.Columns.{column_profile_at}
-use Rattle.records.specs.Expressions.{unary_op, binary_op, nary_op, expression_at}
-use Rattle.records.specs.declared.expressions.Expression.{Expression}
-use Rattle.records.specs.declared.expressions.Expression.TheVariants.{Literal, ColumnRef, Unary, Binary, Nary, Like, Other}
+use Rattle.records.specs.Expressions.{kind_of, expression_at}
+use Rattle.records.specs.declared.expressions.Expression.TheVariants.{Other}
 use Rattle.records.proofs.ListLaws.{tabulate_alike}
 use Rattle.expression_rules.specs.Operands.{expression_place}
 use Rattle.sheet.specs.Sheet.{record_in, records_in, sheet_of}
@@ -27,10 +25,10 @@ use Rattle.sheet.specs.declared.order.Kind.TheVariants.{Columns, Expressions, Op
 use Rattle.sheet.proofs.PlaceLaws.{columns_fixed, expressions_fixed, operands_fixed, fixed_place}
 use Rattle.sheet.proofs.SheetLaws.{records_length, fixed_record_at}
 use Rattle.scan.proofs.ScanLaws.{placed, placed_is}
-use Rattle.lookup.specs.Lookup.{expression_of, operand_in, operands_of, column_of, beside_rows, profile_in, left_profile, right_profile, profile_and_rows, placed_profile, column_place, place_beside, profile_place, kind_of, expression_kind}
-use Rattle.lookup.specs.declared.numbers.ExpressionKind.{ExpressionKind}
-use Rattle.lookup.specs.declared.numbers.ExpressionKind.TheVariants.{Literal as LiteralKind, ColumnRef as ColumnRefKind, Unary as UnaryKind, Binary as BinaryKind, Nary as NaryKind, Like as LikeKind, Other as OtherKind}
-use Rattle.lookup.specs.declared.profiles.ProfilePlace.{ProfilePlace}
+use Rattle.lookup.specs.Lookup.{expression_of, operand_in, operands_of, column_of, beside_rows, profile_in, left_profile, right_profile, profile_and_rows, PlaceAndRows, placed_profile, column_place, place_beside, profile_place, expression_kind}
+pub use Rattle.records.proofs.KindLaws.{of_kind, kind_read}
+use Rattle.records.specs.declared.expressions.ExpressionKind.{ExpressionKind}
+use Rattle.records.specs.declared.expressions.ExpressionKind.TheVariants.{Other as OtherKind}
 
 -- ---- expressions
 
@@ -124,11 +122,11 @@ module _ (s : List ℕ) (q : Sections) (column : ℕ) where
   right_is = placed_in s q.right_columns column (sheet_of s q).right_rows.value
 
   -- the left side's profile, and the right side's where there is none
-  pub place_left : (at : ℕ) (rows : Float) → Some at ≡ column_place s q.left_columns column → rows ≡ (sheet_of s q).left_rows.value → Some (record { at = at; rows = rows }) ≡ profile_place s q column
+  pub place_left : (at : ℕ) (rows : Float) → Some at ≡ column_place s q.left_columns column → rows ≡ (sheet_of s q).left_rows.value → Some (at, rows) ≡ profile_place s q column
   unfolding profile_place
   place_left at rows f e = rw (← f, e) refl
 
-  pub place_right : (at : ℕ) (rows : Float) → None ≡ column_place s q.left_columns column → Some at ≡ column_place s q.right_columns column → rows ≡ (sheet_of s q).right_rows.value → Some (record { at = at; rows = rows }) ≡ profile_place s q column
+  pub place_right : (at : ℕ) (rows : Float) → None ≡ column_place s q.left_columns column → Some at ≡ column_place s q.right_columns column → rows ≡ (sheet_of s q).right_rows.value → Some (at, rows) ≡ profile_place s q column
   unfolding profile_place
   place_right at rows f g e = rw (← f, ← g, e) refl
 
@@ -136,43 +134,28 @@ module _ (s : List ℕ) (q : Sections) (column : ℕ) where
   unfolding profile_place
   place_none f g = rw (← f, ← g) refl
 
-  pub placed_profile_law : (place : Option ProfilePlace) → place ≡ profile_place s q column → option_map (placed_profile s) place ≡ profile_and_rows (sheet_of s q) column
+  pub placed_profile_law : (place : Option PlaceAndRows) → place ≡ profile_place s q column → option_map (placed_profile s) place ≡ profile_and_rows (sheet_of s q) column
   unfolding profile_place profile_and_rows
   placed_profile_law place is = ap (option_map (placed_profile s)) is ∙ go (option_map (place_beside (sheet_of s q).left_rows.value) (column_place s q.left_columns column)) _ ∙ (λ k. option_or (left_is k) (right_is k))
     where
-      go : (a b : Option ProfilePlace) → option_map (placed_profile s) (option_or a b) ≡ option_or (option_map (placed_profile s) a) (option_map (placed_profile s) b)
+      go : (a b : Option PlaceAndRows) → option_map (placed_profile s) (option_or a b) ≡ option_or (option_map (placed_profile s) a) (option_map (placed_profile s) b)
       go None b = refl
       go (Some p) b = refl
 
 -- ---- expressions by their kinds
 
--- what stands at a place, if this is its kind
-abbrev pub of_kind : List ℕ → ℕ → ExpressionKind → Expression
-of_kind s at LiteralKind = Literal (scalar_at s (at + expression_scalar_offset))
-of_kind s at ColumnRefKind = ColumnRef (u16_at s (at + expression_first_offset))
-of_kind s at UnaryKind = Unary (unary_op (byte_at s (at + expression_op_offset))) (u16_at s (at + expression_first_offset))
-of_kind s at BinaryKind = Binary (binary_op (byte_at s (at + expression_op_offset))) (u16_at s (at + expression_first_offset)) (u16_at s (at + expression_second_offset))
-of_kind s at NaryKind = Nary (nary_op (byte_at s (at + expression_op_offset))) (u16_at s (at + expression_first_offset)) (u16_at s (at + expression_second_offset))
-of_kind s at LikeKind = Like
-of_kind s at OtherKind = Other
+module _ (s : List ℕ) (q : Sections) (e : ℕ) where
+  pub kind_there : e < length (sheet_of s q).expressions → kind_of (byte_at s (expression_place q.expressions e)) ≡ expression_kind s q e
+  kind_there h =
+      let l = expressions_length s q in
+      let b : e < u16_at s q.expressions = omega arith in
+      rw (lt-ltb _ _ b) refl
 
-kind_read : (s : List ℕ) (at : ℕ) → expression_at s at ≡ of_kind s at (kind_of (byte_at s at))
-unfolding expression_at
-kind_read s at = go (eqb (byte_at s at) 0) (eqb (byte_at s at) 1) (eqb (byte_at s at) 2) (eqb (byte_at s at) 3) (eqb (byte_at s at) 4) (eqb (byte_at s at) 5)
-  where
-    x : ExpressionKind → Expression
-    x kind = of_kind s at kind
-
-    go : (a b c d e f : Bool)
-        → cond a (x LiteralKind) (cond b (x ColumnRefKind) (cond c (x UnaryKind) (cond d (x BinaryKind) (cond e (x NaryKind) (cond f Like Other)))))
-        ≡ x (cond a LiteralKind (cond b ColumnRefKind (cond c UnaryKind (cond d BinaryKind (cond e NaryKind (cond f LikeKind OtherKind))))))
-    go true b c d e f = refl
-    go false true c d e f = refl
-    go false false true d e f = refl
-    go false false false true e f = refl
-    go false false false false true f = refl
-    go false false false false false true = refl
-    go false false false false false false = refl
+  pub kind_missing : length (sheet_of s q).expressions ≤ e → OtherKind ≡ expression_kind s q e
+  kind_missing h =
+      let l = expressions_length s q in
+      let b : u16_at s q.expressions ≤ e = omega arith in
+      rw (le-ltb _ _ b) refl
 
 pub expression_of_kind : (s : List ℕ) (q : Sections) (e : ℕ) → expression_of (sheet_of s q) e ≡ of_kind s (expression_place q.expressions e) (expression_kind s q e)
 expression_of_kind s q e = go (ltb e (u16_at s q.expressions)) refl

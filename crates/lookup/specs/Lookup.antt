@@ -1,20 +1,20 @@
 -- What a figure looks up in a sheet. Definitions only.
-use Rattle.std.specs.Prelude.{ℕ, ◌+◌, ◌*◌, cond, List, eqb, ltb, get_or, take, drop, Float, Option, None, Some, option_map}
+use Rattle.std.specs.Prelude.{ℕ, ◌+◌, ◌*◌, cond, List, ltb, get_or, take, drop, Float, Option, None, Some, option_map}
 use Rattle.std.specs.Option.{option_or}
 use Rattle.le.specs.Fields.{byte_at, u16_at}
 use Rattle.layout.specs.Places.{column_limit, count_size, number_size, column_size}
 use Rattle.records.specs.Lists.{tabulate}
 use Rattle.records.specs.Columns.{column_profile_at}
 use Rattle.records.specs.declared.columns.ColumnProfile.{ColumnProfile}
+use Rattle.records.specs.Expressions.{kind_of}
+use Rattle.records.specs.declared.expressions.ExpressionKind.{ExpressionKind}
+use Rattle.records.specs.declared.expressions.ExpressionKind.TheVariants.{Other as OtherKind}
 use Rattle.records.specs.declared.expressions.Expression.{Expression}
 use Rattle.records.specs.declared.expressions.Expression.TheVariants.{Other}
 use Rattle.expression_rules.specs.Operands.{expression_place}
 use Rattle.sheet.specs.Sheet.{Sheet, sheet_of}
 use Rattle.sheet.specs.declared.Sections.{Sections}
 use Rattle.scan.specs.Scan.{first_with, place_from, first_place}
-use Rattle.lookup.specs.declared.numbers.ExpressionKind.{ExpressionKind}
-use Rattle.lookup.specs.declared.numbers.ExpressionKind.TheVariants.{Literal as LiteralKind, ColumnRef as ColumnRefKind, Unary as UnaryKind, Binary as BinaryKind, Nary as NaryKind, Like as LikeKind, Other as OtherKind}
-use Rattle.lookup.specs.declared.profiles.ProfilePlace.{ProfilePlace}
 
 -- ---- expressions
 
@@ -59,9 +59,13 @@ profile_and_rows sheet column = option_or (left_profile sheet column) (right_pro
 
 -- ---- by where they stand in the bytes
 
+-- where a profile stands, and the rows of its side
+abbrev pub PlaceAndRows : Type 0
+PlaceAndRows = ℕ × Float
+
 -- the profile that a place stands for
-abbrev pub placed_profile : List ℕ → ProfilePlace → ProfileAndRows
-placed_profile s place = (column_profile_at s place.at, place.rows)
+abbrev pub placed_profile : List ℕ → PlaceAndRows → ProfileAndRows
+placed_profile s place = (column_profile_at s place.0, place.1)
 
 -- in the list of a side whose count stands at `start`
 abbrev pub column_place : List ℕ → ℕ → ℕ → Option ℕ
@@ -71,27 +75,17 @@ column_place s start column = first_place s start column_size column
 abbrev pub column_places : List ℕ → ℕ → List (Option ℕ)
 column_places s start = tabulate (column_place s start) column_limit
 
-abbrev pub place_beside : Float → ℕ → ProfilePlace
-place_beside rows at = record { at = at; rows = rows }
+abbrev pub place_beside : Float → ℕ → PlaceAndRows
+place_beside rows at = (at, rows)
 
 -- the left side's before the right side's
-unfoldable pub profile_place : List ℕ → Sections → ℕ → Option ProfilePlace
+unfoldable pub profile_place : List ℕ → Sections → ℕ → Option PlaceAndRows
 unfolding place_from sheet_of
 profile_place s q column =
     option_or (option_map (place_beside (sheet_of s q).left_rows.value) (column_place s q.left_columns column))
     (option_map (place_beside (sheet_of s q).right_rows.value) (column_place s q.right_columns column))
 
 -- ---- what an expression is, without its fields
-
--- as its first byte tells it
-abbrev pub kind_of : ℕ → ExpressionKind
-kind_of byte =
-    cond (eqb byte 0) LiteralKind
-    (cond (eqb byte 1) ColumnRefKind
-    (cond (eqb byte 2) UnaryKind
-    (cond (eqb byte 3) BinaryKind
-    (cond (eqb byte 4) NaryKind
-    (cond (eqb byte 5) LikeKind OtherKind)))))
 
 -- where there is no such expression, any other one
 abbrev pub expression_kind : List ℕ → Sections → ℕ → ExpressionKind

@@ -6,15 +6,17 @@ use layout::{COLUMN_LIMIT, COLUMN_SIZE, COUNT_SIZE};
 use le::reads::u16_at;
 use scan::first_place;
 
-// From the last profile to the first, so that the first of a column is the one that stays. The
-// columns' count stands at `start`.
+// From the last profile to the first, so that the first of a column is the one that stays. A loop,
+// since no method of the library writes where the records say; and a test in place of `get_mut`,
+// after which a proof knows no element. The columns' count stands at `start`.
+#[tactic(auto, using(crate::proofs::NotedLaws::noted_first, crate::proofs::NotedLaws::noted_all))]
 pub fn column_places(s: &[u8], start: u16) -> [Option<u32>; COLUMN_LIMIT]
     ensures { result ≡ column_places s.now start }
 {
     let mut places = [None; COLUMN_LIMIT];
-    for i in (0..u16_at(s, start as usize) as usize).rev() {
-        let at = start as usize + COUNT_SIZE + COLUMN_SIZE * i;
-        let column = u16_at(s, at) as usize;
+    for i in (0..usize::from(u16_at(s, usize::from(start)))).rev() {
+        let at = usize::from(start) + COUNT_SIZE + COLUMN_SIZE * i;
+        let column = usize::from(u16_at(s, at));
         if column < COLUMN_LIMIT {
             places[column] = Some(at as u32);
         }
@@ -27,7 +29,7 @@ pub fn place_of(s: &[u8], start: u16, places: &[Option<u32>], column: u16) -> Op
     requires { places.now ≡ column_places s.now start }
     ensures { result ≡ column_place s.now start column }
 {
-    match places.get(column as usize) {
+    match places.get(usize::from(column)) {
         Some(place) => *place,
         None => first_place(s, start, COLUMN_SIZE, column),
     }

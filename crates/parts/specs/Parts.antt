@@ -13,9 +13,8 @@ use Rattle.expression_rules.specs.Operands.{expression_place}
 use Rattle.sheet.specs.Sheet.{Sheet}
 use Rattle.sheet.specs.declared.Sections.{Sections}
 use Rattle.lookup.specs.Lookup.{expression_of, expression_kind}
-use Rattle.lookup.specs.declared.numbers.ExpressionKind.{ExpressionKind}
-use Rattle.lookup.specs.declared.numbers.ExpressionKind.TheVariants.{Literal as LiteralKind, ColumnRef as ColumnRefKind}
-use Rattle.parts.specs.declared.literals.PlacedLiteral.{PlacedLiteral}
+use Rattle.records.specs.declared.expressions.ExpressionKind.{ExpressionKind}
+use Rattle.records.specs.declared.expressions.ExpressionKind.TheVariants.{Literal as LiteralKind, ColumnRef as ColumnRefKind}
 use Rattle.parts.specs.declared.equalities.EqualColumns.{EqualColumns}
 
 abbrev pub column_ref : Expression → Option ℕ
@@ -51,26 +50,30 @@ column_literal op left right =
 
 -- ---- by where the literal stands in the bytes
 
--- the pair that a place stands for
-abbrev pub placed_literal : List ℕ → PlacedLiteral → ColumnLiteral
-placed_literal s p = (p.column, scalar_at s p.at, p.op)
+-- a column, the place of the literal beside it, and the operator
+abbrev pub ColumnPlace : Type 0
+ColumnPlace = ℕ × ℕ × BinaryOp
 
-abbrev pub beside_place : ExpressionKind → ExpressionKind → PlacedLiteral → Option PlacedLiteral
+-- the pair that a place stands for
+abbrev pub placed_literal : List ℕ → ColumnPlace → ColumnLiteral
+placed_literal s (column, at, op) = (column, scalar_at s at, op)
+
+abbrev pub beside_place : ExpressionKind → ExpressionKind → ColumnPlace → Option ColumnPlace
 beside_place ColumnRefKind LiteralKind pair = Some pair
 beside_place _ _ pair = None
 
 -- of a column's expression and a literal's
-unfoldable pub column_beside_place : List ℕ → Sections → BinaryOp → ℕ → ℕ → Option PlacedLiteral
+unfoldable pub column_beside_place : List ℕ → Sections → BinaryOp → ℕ → ℕ → Option ColumnPlace
 column_beside_place s q op column literal =
     beside_place (expression_kind s q column) (expression_kind s q literal)
-    (record { column = u16_at s (expression_place q.expressions column + expression_first_offset); at = expression_place q.expressions literal + expression_scalar_offset; op = op })
+    (u16_at s (expression_place q.expressions column + expression_first_offset), expression_place q.expressions literal + expression_scalar_offset, op)
 
 abbrev pub if_literal : {A : Type 0} → ExpressionKind → A → A → A
 if_literal LiteralKind x y = x
 if_literal _ x y = y
 
 -- a literal on the left leaves only the right side for the column
-unfoldable pub column_literal_place : List ℕ → Sections → BinaryOp → ℕ → ℕ → Option PlacedLiteral
+unfoldable pub column_literal_place : List ℕ → Sections → BinaryOp → ℕ → ℕ → Option ColumnPlace
 unfolding column_beside_place
 column_literal_place s q op left right = if_literal (expression_kind s q left) (column_beside_place s q (reversed op) right left) (column_beside_place s q op left right)
 

@@ -1,22 +1,24 @@
-// column_literal of the source's analysis.rs: a column beside a literal.
-ghost use Rattle.std.specs.Prelude.{◌≡◌, ◌+◌, ◌<◌, ◌^◌, IfSome};
+// column_literal of the source's analysis.rs: a column beside a literal. An operator and the numbers of two
+// sides are the fields of `Expression::Binary`, which a struct would hold a second time.
+ghost use Rattle.std.specs.Prelude.{◌≡◌, ◌+◌, ◌<◌, ◌^◌, option_map};
 ghost use Rattle.layout.specs.Places.{expression_scalar_offset};
 ghost use Rattle.expression_rules.specs.Operands.{expression_place};
 ghost use Rattle.parts.specs.Parts.{reversed, column_beside_place, column_literal_place};
 
-use layout::{EXPRESSION_FIRST_OFFSET, EXPRESSION_SCALAR_OFFSET};
-use le::reads::u16_at;
-use lookup::numbers::{ExpressionKind, expression_kind, expression_place};
-use records::expressions::BinaryOp;
-use sheet::Sections;
+use crate::column_ref;
+use layout::EXPRESSION_SCALAR_OFFSET;
+use lookup::numbers::{expression_kind, expression_place};
+use records::expressions::{BinaryOp, ExpressionKind};
+use sheet::{Sections, View};
 
 // A column beside a literal, by where the literal stands in the sheet. The operator is as it stands
-// when the column comes first.
+// when the column comes first. No sheet comes near the bound.
 #[derive(Clone, Copy)]
 pub struct PlacedLiteral {
     pub column: u16,
     pub at: usize,
     pub op: BinaryOp,
+    ghost near: { at < 2 ^ 40 },
 }
 
 // The operator with its sides exchanged.
@@ -40,41 +42,27 @@ fn literal_place(q: Sections, e: u16) -> usize
 }
 
 // Of two expressions by their numbers.
-fn column_beside(
-    s: &[u8],
-    q: Sections,
-    op: BinaryOp,
-    column: u16,
-    literal: u16,
-) -> Option<PlacedLiteral>
-    ensures value { result ≡ column_beside_place s.now q op column literal }
-    ensures within { IfSome result (λ pair. pair.at < 2 ^ 40) }
+#[tactic(auto, using(crate::proofs::KindLaws::no_column, crate::proofs::KindLaws::no_literal, crate::proofs::KindLaws::both_there))]
+fn column_beside(sheet: &View, op: BinaryOp, column: u16, literal: u16) -> Option<PlacedLiteral>
+    ensures { option_map (λ pair. (pair.column, pair.at, pair.op)) result ≡ column_beside_place sheet.now.bytes.now sheet.now.sections op column literal }
 {
-    let ExpressionKind::ColumnRef = expression_kind(s, q, column) else {
-        return None;
-    };
-    let ExpressionKind::Literal = expression_kind(s, q, literal) else {
+    let column = column_ref(sheet, column)?;
+    let ExpressionKind::Literal = expression_kind(sheet, literal) else {
         return None;
     };
     Some(PlacedLiteral {
-        column: u16_at(s, expression_place(q, column) + EXPRESSION_FIRST_OFFSET),
-        at: literal_place(q, literal),
+        column,
+        at: literal_place(sheet.sections, literal),
         op,
     })
 }
 
-pub fn column_literal(
-    s: &[u8],
-    q: Sections,
-    op: BinaryOp,
-    left: u16,
-    right: u16,
-) -> Option<PlacedLiteral>
-    ensures value { result ≡ column_literal_place s.now q op left right }
-    ensures within { IfSome result (λ pair. pair.at < 2 ^ 40) }
+#[tactic(auto, using(crate::proofs::KindLaws::place_turned, crate::proofs::KindLaws::place_as_is))]
+pub fn column_literal(sheet: &View, op: BinaryOp, left: u16, right: u16) -> Option<PlacedLiteral>
+    ensures { option_map (λ pair. (pair.column, pair.at, pair.op)) result ≡ column_literal_place sheet.now.bytes.now sheet.now.sections op left right }
 {
-    match expression_kind(s, q, left) {
-        ExpressionKind::Literal => column_beside(s, q, reversed(op), right, left),
-        _ => column_beside(s, q, op, left, right),
+    match expression_kind(sheet, left) {
+        ExpressionKind::Literal => column_beside(sheet, reversed(op), right, left),
+        _ => column_beside(sheet, op, left, right),
     }
 }

@@ -1,6 +1,7 @@
 // Functions for programs in other languages, so that other code can be compared with this. A slice
 // passes as a pointer and a length, and `out` must share no byte with what is read. Nothing is asked
-// of the bytes: one past the end of what is read counts as 0.
+// of the bytes: one past the end of what is read counts as 0. The forms are C's: a question and its figure
+// are two functions where Rust has an Option, and an order is a number.
 #![tactic(auto)]
 
 ghost use Rattle.std.specs.Prelude.{◌≡◌, is_some, unwrap_or};
@@ -35,11 +36,10 @@ pub extern "C" fn pieces_check(sheet: &[u8]) -> u64
 {
     match sheet::check(sheet) {
         Ok(_) => 0,
-        Err(refusal) => u64::from(refusal.number()),
+        Err(refusal) => u64::from(u8::from(refusal)),
     }
 }
 
-// C has no Option: the order as a number.
 fn order_number(order: Option<Ordering>) -> u64
     ensures { result ≡ order_number order }
 {
@@ -52,6 +52,7 @@ fn order_number(order: Option<Ordering>) -> u64
 }
 
 // The order of two scalars of 19 bytes: 0 none, 1 less, 2 equal, 3 greater.
+#[tactic(auto, unfolding(crate::specs::Pieces::pieces_scalar_order))]
 #[unsafe(no_mangle)]
 pub extern "C" fn pieces_scalar_order(left: &[u8], right: &[u8]) -> u64
     ensures { result ≡ pieces_scalar_order left.now right.now }
@@ -66,6 +67,7 @@ fn number_of(value: &[u8]) -> Option<f64>
 }
 
 // Whether a scalar of 19 bytes has a number.
+#[tactic(auto, unfolding(crate::specs::Pieces::pieces_has_number))]
 #[unsafe(no_mangle)]
 pub extern "C" fn pieces_has_number(value: &[u8]) -> bool
     ensures { result ≡ pieces_has_number value.now }
@@ -74,6 +76,7 @@ pub extern "C" fn pieces_has_number(value: &[u8]) -> bool
 }
 
 // The number of a scalar of 19 bytes, or +0.
+#[tactic(auto, unfolding(crate::specs::Pieces::pieces_number))]
 #[unsafe(no_mangle)]
 pub extern "C" fn pieces_number(value: &[u8]) -> f64
     ensures { result ≡ pieces_number value.now }
@@ -84,6 +87,7 @@ pub extern "C" fn pieces_number(value: &[u8]) -> f64
 // Writes what `EncodedScalarValue::from_scalar` makes of a scalar of 19 bytes, and zeros behind it, to
 // the front of out and answers 19. For a Null, of which it makes nothing, that is 19 zeros. Where out
 // has no room for them it writes nothing and answers 0.
+#[tactic(auto, unfolding(crate::specs::Pieces::written, crate::specs::Pieces::with_front))]
 #[unsafe(no_mangle)]
 pub extern "C" fn pieces_from_scalar(value: &[u8], out: &mut [u8]) -> u64
     ensures value { result ≡ written scalar_size out.old }
@@ -103,6 +107,7 @@ const THIRD_SCALAR: usize = SECOND_SCALAR + SCALAR_SIZE;
 
 const FOURTH_SCALAR: usize = THIRD_SCALAR + SCALAR_SIZE;
 
+#[tactic(auto, unfolding(crate::specs::Pieces::pieces_fraction))]
 fn fraction_of(scalars: &[u8]) -> Option<f64>
     ensures { result ≡ pieces_fraction scalars.now }
 {
@@ -133,6 +138,7 @@ pub extern "C" fn pieces_fraction(scalars: &[u8]) -> f64
     fraction_of(scalars).unwrap_or(0.0)
 }
 
+#[tactic(auto, unfolding(crate::specs::Pieces::pieces_intersection))]
 fn intersection_of(columns: &[u8], left_distinct: f64, right_distinct: f64) -> DistinctIntersection
     ensures { result ≡ pieces_intersection columns.now left_distinct right_distinct }
 {
@@ -153,8 +159,7 @@ pub extern "C" fn pieces_distinct_intersection(
 ) -> f64
     ensures { result ≡ (pieces_intersection columns.now left_distinct right_distinct).distinct }
 {
-    let shared = intersection_of(columns, left_distinct, right_distinct);
-    shared.distinct
+    intersection_of(columns, left_distinct, right_distinct).distinct
 }
 
 // Whether their ranges are disjoint.
@@ -166,12 +171,12 @@ pub extern "C" fn pieces_domains_disjoint(
 ) -> bool
     ensures { result ≡ (pieces_intersection columns.now left_distinct right_distinct).domains_disjoint }
 {
-    let shared = intersection_of(columns, left_distinct, right_distinct);
-    shared.domains_disjoint
+    intersection_of(columns, left_distinct, right_distinct).domains_disjoint
 }
 
 // Writes the 26 bytes of e to the front of out and answers 26. Where out has no room for them it
 // writes nothing and answers 0.
+#[tactic(auto, unfolding(crate::specs::Pieces::written, crate::specs::Pieces::with_front))]
 fn write_estimate(out: &mut [u8], e: Estimate) -> u64
     ensures value { result ≡ written estimate_size out.old }
     ensures out_after { out.new ≡ with_front estimate_size (estimate_bytes e) out.old }
@@ -184,6 +189,7 @@ fn write_estimate(out: &mut [u8], e: Estimate) -> u64
 }
 
 // Writes the one of two estimates of 26 bytes that has the larger value, as `write_estimate` does.
+#[tactic(auto, unfolding(crate::specs::Pieces::pieces_max_by_value))]
 #[unsafe(no_mangle)]
 pub extern "C" fn pieces_max_by_value(left: &[u8], right: &[u8], out: &mut [u8]) -> u64
     ensures value { result ≡ written estimate_size out.old }
@@ -196,6 +202,7 @@ pub extern "C" fn pieces_max_by_value(left: &[u8], right: &[u8], out: &mut [u8])
 }
 
 // As `pieces_max_by_value`, for the smaller value.
+#[tactic(auto, unfolding(crate::specs::Pieces::pieces_min_by_value))]
 #[unsafe(no_mangle)]
 pub extern "C" fn pieces_min_by_value(left: &[u8], right: &[u8], out: &mut [u8]) -> u64
     ensures value { result ≡ written estimate_size out.old }
@@ -209,6 +216,7 @@ pub extern "C" fn pieces_min_by_value(left: &[u8], right: &[u8], out: &mut [u8])
 
 // Writes what `Estimate::derived` makes of the value and the bounds of an estimate of 26 bytes, as
 // `write_estimate` does.
+#[tactic(auto, unfolding(crate::specs::Pieces::pieces_derived))]
 #[unsafe(no_mangle)]
 pub extern "C" fn pieces_derived(value: &[u8], out: &mut [u8]) -> u64
     ensures value { result ≡ written estimate_size out.old }
@@ -217,7 +225,7 @@ pub extern "C" fn pieces_derived(value: &[u8], out: &mut [u8]) -> u64
     let e = estimate_at(value, 0);
     write_estimate(
         out,
-        Estimate::derived(e.value, Estimate::lower_bound(e), Estimate::upper_bound(e)),
+        Estimate::derived(e.value, e.lower_bound(), e.upper_bound()),
     )
 }
 

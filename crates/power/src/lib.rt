@@ -60,6 +60,7 @@ fn fraction_digits(f: f64) -> u64
 }
 
 // x to the power f, where f lies from 1 to below 2^63.
+#[tactic(auto, using(crate::proofs::Exponents::above_minus_one, crate::proofs::Exponents::below_64, crate::proofs::Exponents::whole_pos), unfolding(crate::specs::Power::finite_power))]
 fn finite_power(x: f64, f: f64) -> f64
     requires at_least_one { T (le f64_one f) }
     requires below_limit { T (lt f (fin false 1 (pos 63))) }

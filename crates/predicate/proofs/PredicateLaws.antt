@@ -1,6 +1,6 @@
 -- Laws of predicates: what an expression gives, and the operands of a run one by one. Assumes nothing.
 use Prim.Native.Nat.{ℕ, ◌+◌, ◌-◌, ◌≤◌, ◌<◌, min}
-use mathlib.Core.Path.{◌≡◌, refl, sym, ap, ◌∙◌}
+use mathlib.Core.Path.{◌≡◌, sym, ap, ◌∙◌}
 use mathlib.Core.List.{List}
 use lib.ListN.{length}
 use lib.Ieee.{Float, binary64, mul}
@@ -8,20 +8,18 @@ use Rattle.float.specs.Order.{f64_one}
 use Rattle.estimate.specs.declared.Estimate.{Estimate}
 use Rattle.records.specs.Lists.{tabulate_from}
 use Rattle.records.specs.declared.expressions.NaryOp.{NaryOp}
+use Rattle.records.specs.declared.expressions.ExpressionKind.{ExpressionKind}
+use Rattle.records.specs.declared.expressions.Expression.TheVariants.{Nary}
 use Rattle.records.proofs.ListLaws.{tabulate_step, tabulate_end}
 use Rattle.expression_rules.specs.Operands.{expression_place}
 use Rattle.sheet.specs.Sheet.{Sheet, sheet_of}
 use Rattle.sheet.specs.declared.Sections.{Sections}
 use Rattle.lookup.specs.Lookup.{expression_of, operand_in, operands_of, expression_kind}
-use Rattle.lookup.specs.declared.numbers.ExpressionKind.{ExpressionKind}
-use Rattle.lookup.specs.declared.numbers.ExpressionKind.TheVariants.{Literal as LiteralKind, Unary as UnaryKind, Binary as BinaryKind, Nary as NaryKind, Like as LikeKind}
 use Rattle.lookup.specs.Recursion.{below, by_number}
 use Rattle.lookup.proofs.LookupLaws.{operands_from, of_kind, expression_is}
 use Rattle.lookup.proofs.RecursionLaws.{below_is, below_not}
 use Rattle.range.specs.Selectivity.{default_estimate}
-use Rattle.predicate.specs.Predicate.{operand_factor, operand_product, nary_estimate, leaf_or_run, run_estimate, selectivity_by, default_of, filter_selectivity_for_predicate}
-use Rattle.predicate.specs.declared.run.LeafOrRun.{LeafOrRun}
-use Rattle.predicate.specs.declared.run.LeafOrRun.TheVariants.{Leaf, Run}
+use Rattle.predicate.specs.Predicate.{operand_factor, operand_product, nary_estimate, expression_estimate, selectivity_by, default_of, filter_selectivity_for_predicate}
 
 -- what the numbers below one stand for
 abbrev pub estimates_below : Sheet → ℕ → ℕ → Estimate
@@ -29,34 +27,15 @@ estimates_below sheet = below (selectivity_by sheet) (default_of sheet)
 
 -- ---- one expression
 
-module _ (sheet : Sheet) (e : ℕ) (x : LeafOrRun) (is : x ≡ leaf_or_run sheet (expression_of sheet e)) where
-  by_run : run_estimate sheet (estimates_below sheet e) x ≡ filter_selectivity_for_predicate sheet e
+module _ (sheet : Sheet) (e : ℕ) where
+  pub of_run_law : (op : NaryOp) (first count : ℕ) (product : Float) → expression_of sheet e ≡ Nary op first count → product ≡ operand_product op (estimates_below sheet e) f64_one (operands_of sheet first count) → nary_estimate op product ≡ filter_selectivity_for_predicate sheet e
   unfolding filter_selectivity_for_predicate by_number selectivity_by
-  by_run = ap (run_estimate sheet (estimates_below sheet e)) is
+  of_run_law op first count product h g = ap (nary_estimate op) g ∙ ap (expression_estimate sheet (estimates_below sheet e)) (sym h)
 
-  pub of_leaf : (estimate : Estimate) → x ≡ Leaf estimate → estimate ≡ filter_selectivity_for_predicate sheet e
-  of_leaf estimate h = ap (run_estimate sheet (estimates_below sheet e)) (sym h) ∙ by_run
-
-  pub of_run_law : (op : NaryOp) (first count : ℕ) (product : Float) → x ≡ Run op first count → product ≡ operand_product op (estimates_below sheet e) f64_one (operands_of sheet first count) → nary_estimate op product ≡ filter_selectivity_for_predicate sheet e
-  of_run_law op first count product h g = ap (nary_estimate op) g ∙ ap (run_estimate sheet (estimates_below sheet e)) (sym h) ∙ by_run
-
--- ---- by its kind and its place
-
+-- by its kind and its place
 module _ (s : List ℕ) (q : Sections) (e : ℕ) (kind : ExpressionKind) (at : ℕ) (is : kind ≡ expression_kind s q e) (stands : at ≡ expression_place q.expressions e) where
-  pub of_kind_law : (told : ExpressionKind) → kind ≡ told → leaf_or_run (sheet_of s q) (of_kind s at told) ≡ leaf_or_run (sheet_of s q) (expression_of (sheet_of s q) e)
-  of_kind_law told h = rw stands (ap (leaf_or_run (sheet_of s q)) (sym (expression_is s q e told (sym is ∙ h))))
-
-  -- a column, or any other expression
-  pub of_other : (kind ≡ LiteralKind → ⊥) → (kind ≡ UnaryKind → ⊥) → (kind ≡ BinaryKind → ⊥) → (kind ≡ NaryKind → ⊥) → (kind ≡ LikeKind → ⊥) → Leaf (default_estimate (sheet_of s q)) ≡ leaf_or_run (sheet_of s q) (expression_of (sheet_of s q) e)
-  of_other n0 n2 n3 n4 n5 = go kind n0 n2 n3 n4 n5 ∙ of_kind_law kind refl
-    where
-      go : (k : ExpressionKind) → (k ≡ LiteralKind → ⊥) → (k ≡ UnaryKind → ⊥) → (k ≡ BinaryKind → ⊥) → (k ≡ NaryKind → ⊥) → (k ≡ LikeKind → ⊥) → Leaf (default_estimate (sheet_of s q)) ≡ leaf_or_run (sheet_of s q) (of_kind s at k)
-      go LiteralKind n0 n2 n3 n4 n5 = absurd (n0 refl)
-      go UnaryKind n0 n2 n3 n4 n5 = absurd (n2 refl)
-      go BinaryKind n0 n2 n3 n4 n5 = absurd (n3 refl)
-      go NaryKind n0 n2 n3 n4 n5 = absurd (n4 refl)
-      go LikeKind n0 n2 n3 n4 n5 = absurd (n5 refl)
-      go _ n0 n2 n3 n4 n5 = refl
+  pub of_kind_law : (estimates : ℕ → Estimate) (told : ExpressionKind) → kind ≡ told → expression_estimate (sheet_of s q) estimates (of_kind s at told) ≡ expression_estimate (sheet_of s q) estimates (expression_of (sheet_of s q) e)
+  of_kind_law estimates told h = rw stands (ap (expression_estimate (sheet_of s q) estimates) (sym (expression_is s q e told (sym is ∙ h))))
 
 -- ---- an operand, below a limit or not
 

@@ -17,8 +17,6 @@ use Rattle.lookup.specs.Recursion.{by_number}
 use Rattle.range.specs.Selectivity.{unit_estimate, default_estimate}
 use Rattle.comparison.specs.Unary.{unary_selectivity}
 use Rattle.comparison.specs.Binary.{binary_selectivity}
-use Rattle.predicate.specs.declared.run.LeafOrRun.{LeafOrRun}
-use Rattle.predicate.specs.declared.run.LeafOrRun.TheVariants.{Leaf, Run}
 
 -- ---- a literal
 
@@ -49,23 +47,18 @@ nary_estimate Or product = unit_estimate (sub binary64 f64_one product)
 
 -- ---- any expression
 
--- a leaf's own estimate, or the operator and the operands of an And or an Or
-abbrev pub leaf_or_run : Sheet → Expression → LeafOrRun
-leaf_or_run sheet (Literal value) = Leaf (literal_estimate sheet value)
-leaf_or_run sheet (Unary op expr) = Leaf (unary_selectivity sheet op expr)
-leaf_or_run sheet (Binary op left right) = Leaf (binary_selectivity sheet op left right)
-leaf_or_run sheet (Nary op first count) = Run op first count
-leaf_or_run sheet Like = Leaf (unit_estimate sheet.settings.like_selectivity)
-leaf_or_run sheet _ = Leaf (default_estimate sheet)
-
 -- by the estimates of smaller numbers
-abbrev pub run_estimate : Sheet → (ℕ → Estimate) → LeafOrRun → Estimate
-run_estimate sheet below (Leaf estimate) = estimate
-run_estimate sheet below (Run op first count) = nary_estimate op (operand_product op below f64_one (operands_of sheet first count))
+abbrev pub expression_estimate : Sheet → (ℕ → Estimate) → Expression → Estimate
+expression_estimate sheet below (Literal value) = literal_estimate sheet value
+expression_estimate sheet below (Unary op expr) = unary_selectivity sheet op expr
+expression_estimate sheet below (Binary op left right) = binary_selectivity sheet op left right
+expression_estimate sheet below (Nary op first count) = nary_estimate op (operand_product op below f64_one (operands_of sheet first count))
+expression_estimate sheet below Like = unit_estimate sheet.settings.like_selectivity
+expression_estimate sheet below _ = default_estimate sheet
 
 unfoldable pub selectivity_by : Sheet → (ℕ → Estimate) → ℕ → Estimate
 unfolding unit_estimate default_estimate literal_estimate unary_selectivity binary_selectivity operand_product
-selectivity_by sheet below e = run_estimate sheet below (leaf_or_run sheet (expression_of sheet e))
+selectivity_by sheet below e = expression_estimate sheet below (expression_of sheet e)
 
 -- a number that is not below an expression's own, which no accepted sheet has as an operand, has the default
 abbrev pub default_of : Sheet → ℕ → Estimate

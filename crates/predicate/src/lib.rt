@@ -6,49 +6,55 @@ ghost use Rattle.std.specs.Prelude.{◌≡◌};
 ghost use Rattle.float.specs.Order.{f64_one};
 ghost use Rattle.lookup.specs.Lookup.{operands_of};
 ghost use Rattle.lookup.specs.Recursion.{below};
-ghost use Rattle.sheet.specs.Sheet.{sheet_of};
+ghost use Rattle.sheet.specs.Sheet.{viewed};
 ghost use Rattle.predicate.specs.Predicate.{operand_product, selectivity_by, default_of, filter_selectivity_for_predicate};
 
+use comparison::binary::binary_selectivity;
+use comparison::unary::unary_selectivity;
 use estimate::Estimate;
-use lookup::numbers::{operand_in, run_end};
+use leaves::{like_estimate, literal_estimate};
+use lookup::numbers::{Run, expression_of, operand_in, run_end};
+use nary::{nary_estimate, operand_factor};
 use range::selectivity::default_estimate;
-use records::expressions::NaryOp;
-use run::{LeafOrRun, leaf_or_run, nary_estimate};
-use sheet::Sections;
+use records::expressions::{Expression, NaryOp};
+use sheet::View;
 
 mod leaves;
-mod run;
+mod nary;
 
 #[cycle(predicate)]
-pub fn filter_selectivity_for_predicate(s: &[u8], q: Sections, e: u16) -> Estimate
-    ensures { result ≡ filter_selectivity_for_predicate (sheet_of s.now q) e }
+#[tactic(auto, unfolding(crate::specs::Predicate::filter_selectivity_for_predicate, lookup::specs::Recursion::by_number, crate::specs::Predicate::selectivity_by))]
+pub fn filter_selectivity_for_predicate(sheet: &View, e: u16) -> Estimate
+    ensures { result ≡ filter_selectivity_for_predicate (viewed sheet.now) e }
 {
-    match leaf_or_run(s, q, e) {
-        LeafOrRun::Leaf(estimate) => estimate,
-        LeafOrRun::Run { op, first, count } => {
-            nary_estimate(op, operand_product(s, q, op, first, count, e))
+    match expression_of(sheet, e) {
+        Expression::Literal(value) => literal_estimate(sheet, value),
+        Expression::Unary { op, expr } => unary_selectivity(sheet, op, expr),
+        Expression::Binary { op, left, right } => binary_selectivity(sheet, op, left, right),
+        Expression::Nary { op, first, count } => {
+            nary_estimate(op, operand_product(sheet, op, Run { first, count }, e))
         }
+        Expression::Like => like_estimate(sheet),
+        Expression::ColumnRef(_) | Expression::Other => default_estimate(sheet),
     }
 }
 
 // The product over a run of operands. One that is not below the limit, which no accepted sheet has, has
-// the default.
+// the default. A loop, and no `fold`: a closure in a cycle of calls needs clauses of its own.
 #[cycle(predicate)]
-fn operand_product(s: &[u8], q: Sections, op: NaryOp, first: u16, count: u16, limit: u16) -> f64
-    ensures { result ≡ operand_product op (below (selectivity_by (sheet_of s.now q)) (default_of (sheet_of s.now q)) limit) f64_one (operands_of (sheet_of s.now q) first count) }
+#[tactic(auto, using(range::proofs::BitLaws::one_bits, crate::proofs::PredicateLaws::product_first, crate::proofs::PredicateLaws::product_next, crate::proofs::PredicateLaws::product_all, crate::proofs::PredicateLaws::operand_below, crate::proofs::PredicateLaws::operand_not_below))]
+fn operand_product(sheet: &View, op: NaryOp, run: Run, limit: u16) -> f64
+    ensures { result ≡ operand_product op (below (selectivity_by (viewed sheet.now)) (default_of (viewed sheet.now)) limit) f64_one (operands_of (viewed sheet.now) run.first run.count) }
 {
     let mut product = 1.0;
-    for i in first as usize..run_end(s, q, first, count) {
-        let o = operand_in(s, q, i);
+    for i in usize::from(run.first)..run_end(sheet, run) {
+        let o = operand_in(sheet, i);
         let operand = if o < limit {
-            filter_selectivity_for_predicate(s, q, o)
+            filter_selectivity_for_predicate(sheet, o)
         } else {
-            default_estimate(s, q)
+            default_estimate(sheet)
         };
-        product = match op {
-            NaryOp::And => product * operand.value,
-            NaryOp::Or => product * (1.0 - operand.value),
-        };
+        product *= operand_factor(op, operand.value);
     }
     product
 }

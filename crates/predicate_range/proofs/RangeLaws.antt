@@ -17,7 +17,7 @@ use Rattle.lawful.specs.Lawful.{LawfulSheet}
 use Rattle.lawful.proofs.LawfulLaws.{accepted_sheet}
 use Rattle.units.proofs.UnitOperations.{complement_unit}
 use Rattle.lookup.specs.Lookup.{expression_of, operands_of}
-use Rattle.predicate.specs.Predicate.{operand_factor, operand_product, nary_estimate, leaf_or_run, run_estimate, selectivity_by, default_of, filter_selectivity_for_predicate}
+use Rattle.predicate.specs.Predicate.{operand_factor, operand_product, nary_estimate, expression_estimate, selectivity_by, default_of, filter_selectivity_for_predicate}
 use Rattle.predicate_range.specs.Range.{PredicateInUnit, BoundedInUnit, PredicateBoundedInUnit}
 use Rattle.predicate_range.proofs.NumberRange.{each_number}
 use Rattle.predicate_range.proofs.LeafRange.{unit_bounded, default_bounded, like_bounded, literal_bounded}
@@ -41,7 +41,7 @@ nary_bounded Or product u = unit_bounded (sub binary64 f64_one product) (complem
 
 -- ---- any expression
 module _ (sheet : Sheet) (h : LawfulSheet sheet) where
-  expression_bounded : (estimates : ℕ → Estimate) → ((o : ℕ) → BoundedInUnit (estimates o)) → (x : Expression) → BoundedInUnit (run_estimate sheet estimates (leaf_or_run sheet x))
+  expression_bounded : (estimates : ℕ → Estimate) → ((o : ℕ) → BoundedInUnit (estimates o)) → (x : Expression) → BoundedInUnit (expression_estimate sheet estimates x)
   expression_bounded estimates b (Literal value) = literal_bounded sheet h value
   expression_bounded estimates b (ColumnRef column) = default_bounded sheet h
   expression_bounded estimates b (Unary op expr) = unary_bounded sheet h op expr

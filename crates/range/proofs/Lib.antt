@@ -1,1 +1,2 @@
-mod NumberLaws
+pub mod BitLaws
+pub mod NumberLaws

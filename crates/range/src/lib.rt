@@ -16,6 +16,9 @@ use records::expressions::BinaryOp;
 pub mod numbers;
 pub mod selectivity;
 
+// `min` and `max` are two parameters from here on: a struct of them would be made in one place, and taken
+// apart in each function.
+#[tactic(auto, using(crate::proofs::BitLaws::one_bits), unfolding(crate::specs::Range::width))]
 fn width(min: f64, max: f64) -> f64
     ensures { result ≡ width min max }
 {
@@ -34,6 +37,7 @@ fn part_above(min: f64, max: f64, value: f64) -> f64
     clamp_unit((max - value) / width(min, max))
 }
 
+#[tactic(auto, unfolding(crate::specs::Range::selected))]
 fn selected(op: BinaryOp, fallback: f64, min: f64, max: f64, value: f64) -> f64
     ensures { result ≡ selected op fallback min max value }
 {
@@ -44,6 +48,7 @@ fn selected(op: BinaryOp, fallback: f64, min: f64, max: f64, value: f64) -> f64
     }
 }
 
+#[tactic(auto, unfolding(crate::specs::Range::range_of))]
 fn range_of(
     op: BinaryOp,
     fallback: f64,
@@ -61,7 +66,9 @@ fn range_of(
     }
 }
 
-// Of the profile at a place, against the scalar at a place.
+// Of the profile at a place, against the scalar at a place. Two numbers and no struct: each is found on its
+// own, and `Compared` holds both.
+#[tactic(auto, unfolding(crate::specs::Range::range_selectivity, records::specs::Columns::column_profile_at))]
 pub fn range_selectivity(
     s: &[u8],
     profile: usize,

@@ -10,28 +10,30 @@ use layout::{DECIMAL_DIGITS_OFFSET, DECIMAL_SCALE_OFFSET, SCALAR_VALUE_OFFSET};
 use le::floats::f64_at;
 use le::integers::{i32_at, i64_at};
 use le::reads::byte_at;
-use signed::i32_to_i64;
+use scalar_bytes::tags::{DATE32, DECIMAL128, FLOAT64, INT32, INT64};
 
 // By its tag.
+#[tactic(auto, using(signed::proofs::SignedLaws::kept, crate::proofs::NumberLaws::no_number), unfolding(scalar::specs::Number::scalar_to_f64, scalar_bytes::specs::Reading::scalar_at))]
 pub fn number_at(s: &[u8], at: usize) -> Option<f64>
     requires { at < 2 ^ 60 }
     ensures { result ≡ scalar_to_f64 (scalar_at s.now at) }
 {
     let tag = byte_at(s, at);
-    let value = SCALAR_VALUE_OFFSET;
     match tag {
-        2 | 6 => Some(nearest_i64(i32_to_i64(i32_at(s, at + value)))),
-        3 => Some(nearest_i64(i64_at(s, at + value))),
-        4 => Some(f64_at(s, at + value)),
-        5 => Some(
-            nearest_i64(i64_at(s, at + (value + DECIMAL_DIGITS_OFFSET)))
-                / power_of_ten(byte_at(s, at + (value + DECIMAL_SCALE_OFFSET))),
+        INT32 | DATE32 => Some(nearest_i64(i64::from(i32_at(s, at + SCALAR_VALUE_OFFSET)))),
+        INT64 => Some(nearest_i64(i64_at(s, at + SCALAR_VALUE_OFFSET))),
+        FLOAT64 => Some(f64_at(s, at + SCALAR_VALUE_OFFSET)),
+        DECIMAL128 => Some(
+            nearest_i64(i64_at(s, at + (SCALAR_VALUE_OFFSET + DECIMAL_DIGITS_OFFSET)))
+                / power_of_ten(byte_at(s, at + (SCALAR_VALUE_OFFSET + DECIMAL_SCALE_OFFSET))),
         ),
         _ => None,
     }
 }
 
-// Of a bound, which has no number where it is absent.
+// Of a bound, by the same bytes: the tag of one that is absent is no number's. Beside `number_at`, since
+// its contract speaks of an `Option`.
+#[tactic(auto, using(crate::proofs::NumberLaws::bound_number_law))]
 pub fn bound_number_at(s: &[u8], at: usize) -> Option<f64>
     requires { at < 2 ^ 60 }
     ensures { result ≡ bound_number (bound_at s.now at) }

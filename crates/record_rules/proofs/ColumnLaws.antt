@@ -16,9 +16,6 @@ use Rattle.layout.specs.Places.{column_limit, number_size, base_size, base_colum
 use Rattle.layout.specs.Fields.{size_of, bytes_of, no_rule}
 use Rattle.layout.specs.Lawful.{LawfulField, as_field}
 use Rattle.layout.proofs.LayoutLaws.{EachField, ◌and◌, sizes, record_kept, record_accepted, record_room, stands, written, record_lawful, group_lawful, sized_lawful, sized_read}
-use Rattle.scalar.specs.declared.Scalar.TheVariants.{Null, Boolean, Int32, Int64, Float64, Decimal128, Date32, IntervalMonthDayNano, IntervalDayTime}
-use Rattle.scalar.specs.declared.Scalar.{Scalar}
-use Rattle.scalar_bytes.specs.Encoding.{place_allows}
 use Rattle.scalar_bytes.specs.declared.reads.ScalarPlace.TheVariants.{Bound as AtBound}
 use Rattle.scalar_bytes.proofs.EncodingLaws as Scalars
 use Rattle.scalar_bytes.proofs.FieldLaws.{bound_lawful, bound_read, bound_accepted}

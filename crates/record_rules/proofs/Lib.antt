@@ -1,4 +1,3 @@
-pub mod LoopLaws
 pub mod RoomLaws
 pub mod RowLaws
 pub mod TableLaws

@@ -2,7 +2,7 @@
 use Rattle.std.specs.Prelude.{ℕ, Bool, ◌||◌, List, [], ◌∷◌, eqb, Option, Some, None}
 use Rattle.le.specs.Fields.{byte_at, u16_at, u64_at}
 use Rattle.rules.specs.Rules.{ask}
-use Rattle.layout.specs.Places.{table_size}
+use Rattle.layout.specs.Places.{no_number, unknown_count, table_size}
 use Rattle.layout.specs.Fields.{Field, byte, number, wide, no_rule, fields_refusal}
 use Rattle.records.specs.declared.catalog.Table.{Table}
 use Rattle.records.specs.declared.catalog.Key.{Key}
@@ -13,10 +13,10 @@ use Rattle.record_rules.specs.Fields.{ascending, count_lawful, is_none}
 
 -- all ones: unknown
 abbrev pub row_count_lawful : ℕ → Bool
-row_count_lawful n = count_lawful n || eqb n 0xffff_ffff_ffff_ffff
+row_count_lawful n = count_lawful n || eqb n unknown_count
 
 abbrev pub row_count_number : Option ℕ → ℕ
-row_count_number None = 0xffff_ffff_ffff_ffff
+row_count_number None = unknown_count
 row_count_number (Some n) = n
 
 -- table i
@@ -45,11 +45,11 @@ key_column (Unique column) = column.column
 key_column (Foreign column referenced) = column.column
 
 abbrev pub key_referenced_table : Key → ℕ
-key_referenced_table (Unique column) = 0xffff
+key_referenced_table (Unique column) = no_number
 key_referenced_table (Foreign column referenced) = referenced.table
 
 abbrev pub key_referenced_column : Key → ℕ
-key_referenced_column (Unique column) = 0xffff
+key_referenced_column (Unique column) = no_number
 key_referenced_column (Foreign column referenced) = referenced.column
 
 abbrev pub referenced_refusal : ℕ → List ℕ → ℕ → ℕ

@@ -3,7 +3,7 @@ use Rattle.std.specs.Prelude.{ℕ, ◌+◌, ◌&&◌, ◌||◌, List, [], ◌∷
 use Rattle.std.specs.Bool.{beq}
 use Rattle.le.specs.Fields.{u16_at}
 use Rattle.rules.specs.Rules.{ask}
-use Rattle.layout.specs.Places.{column_limit, base_column_offset, column_size}
+use Rattle.layout.specs.Places.{no_number, column_limit, base_column_offset, column_size}
 use Rattle.layout.specs.Fields.{Field, number, group, no_rule, fields_refusal}
 use Rattle.scalar_bytes.specs.Reading.{scalar_refusal}
 use Rattle.scalar_bytes.specs.Fields.{bound}
@@ -31,11 +31,11 @@ sketch_number_refusal sketches n = ask (is_none n || ltb n sketches) 8
 -- ---- the base
 
 abbrev pub base_table : Option BaseColumn → ℕ
-base_table None = 0xffff
+base_table None = no_number
 base_table (Some base) = base.table
 
 abbrev pub base_column : Option BaseColumn → ℕ
-base_column None = 0xffff
+base_column None = no_number
 base_column (Some base) = base.column
 
 abbrev pub base_fields : List (Field (Unit {0}) (Option BaseColumn))
@@ -44,7 +44,7 @@ base_fields = number base_table no_rule ∷ number base_column no_rule ∷ []
 -- ---- the record
 
 abbrev pub sketch_number : Option ℕ → ℕ
-sketch_number None = 0xffff
+sketch_number None = no_number
 sketch_number (Some n) = n
 
 -- column i of a side, on a sheet of so many sketches

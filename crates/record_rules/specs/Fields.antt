@@ -1,7 +1,7 @@
 -- Rules that several records share. Definitions only.
 use Rattle.std.specs.Prelude.{ℕ, ◌-◌, Bool, ◌||◌, List, leb, ltb, eqb}
 use Rattle.le.specs.Fields.{u16_at}
-use Rattle.layout.specs.Places.{count_limit}
+use Rattle.layout.specs.Places.{count_limit, no_number}
 
 -- record i begins with a number above that of the record before it, which is as long; strictly
 unfoldable pub ascending : ℕ → List ℕ → ℕ → ℕ → Bool
@@ -13,4 +13,4 @@ count_lawful n = leb n count_limit
 
 -- FFFF, where it stands for nothing
 abbrev pub is_none : ℕ → Bool
-is_none n = eqb n 0xffff
+is_none n = eqb n no_number

@@ -2,7 +2,7 @@
 use Rattle.std.specs.Prelude.{ℕ, ◌^◌, ◌≤◌, ◌<◌, ◌≡◌, true, T, Float, Option, Some, None}
 use Rattle.std.specs.Float.{binary64}
 use Rattle.std.specs.Float.Ieee.{fits}
-use Rattle.layout.specs.Places.{column_limit, count_limit, class_least, class_most}
+use Rattle.layout.specs.Places.{column_limit, count_limit, no_number, class_least, class_most}
 use Rattle.scalar_bytes.specs.Encoding.{lawful_bound}
 use Rattle.estimate.specs.Bytes.{LawfulEstimate}
 use Rattle.records.specs.declared.catalog.Table.{Table}
@@ -41,12 +41,12 @@ pub record LawfulKey (x : Key) : Type 0 where
 
 abbrev pub LawfulBase : Option BaseColumn → Type 0
 LawfulBase None = Unit {0}
-LawfulBase (Some base) = (base.table < 0xffff) × (base.column < 0xffff)
+LawfulBase (Some base) = (base.table < no_number) × (base.column < no_number)
 
 -- one of n sketches
 abbrev pub LawfulSketchNumber : ℕ → Option ℕ → Type 0
 LawfulSketchNumber n None = Unit {0}
-LawfulSketchNumber n (Some i) = (i < n) × (i < 0xffff)
+LawfulSketchNumber n (Some i) = (i < n) × (i < no_number)
 
 -- on a sheet of n sketches
 pub record LawfulColumn (n : ℕ) (x : ColumnProfile) : Type 0 where

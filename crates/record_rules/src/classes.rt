@@ -20,11 +20,12 @@ fn class_column_refusal(s: &[u8], first: usize, j: usize) -> Result<(), Refusal>
     column_number_refusal(NUMBER_SIZE, s, j, at)
 }
 
-#[tactic(auto, using(crate::proofs::LoopLaws::first_steps))]
+#[tactic(auto, using(rules::proofs::LoopLaws::first_steps))]
 fn class_columns_refusal(s: &[u8], first: usize, n: usize) -> Result<(), Refusal>
     requires { (first < 2 ^ 40) × (n < 2 ^ 16) }
     ensures { outcome_number result ≡ first_refusal (class_column_refusal s.now first) 0 n }
 {
+    // A loop and no chain: `?` ends it at the first refusal, and iterators have no `try_for_each` here.
     for j in 0..n {
         class_column_refusal(s, first, j)?;
     }
@@ -37,11 +38,8 @@ fn class_head_refusal(s: &[u8], at: usize) -> Result<(), Refusal>
     ensures { outcome_number result ≡ class_head_refusal s.now at }
 {
     whole(CLASS_HEAD_SIZE, s, at)?;
-    let n = u16_at(s, at);
-    ask(
-        CLASS_LEAST as u16 <= n && n <= CLASS_MOST as u16,
-        Refusal::Count,
-    )?;
+    let n = usize::from(u16_at(s, at));
+    ask((CLASS_LEAST..=CLASS_MOST).contains(&n), Refusal::Count)?;
     estimate_refusal(s, at + CLASS_DISTINCT_OFFSET)
 }
 
@@ -51,5 +49,5 @@ pub fn class_refusal(s: &[u8], at: usize) -> Result<(), Refusal>
     ensures { outcome_number result ≡ class_refusal s.now at }
 {
     class_head_refusal(s, at)?;
-    class_columns_refusal(s, at + CLASS_HEAD_SIZE, u16_at(s, at) as usize)
+    class_columns_refusal(s, at + CLASS_HEAD_SIZE, usize::from(u16_at(s, at)))
 }

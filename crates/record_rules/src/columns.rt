@@ -19,7 +19,7 @@ pub fn column_number_refusal(size: usize, s: &[u8], i: usize, at: usize) -> Resu
     ensures { outcome_number result ≡ column_number_refusal size s.now i at }
 {
     ask(
-        ascending(size, s, i, at) && u16_at(s, at) < COLUMN_LIMIT as u16,
+        ascending(size, s, i, at) && usize::from(u16_at(s, at)) < COLUMN_LIMIT,
         Refusal::Order,
     )
 }

@@ -4,11 +4,11 @@ ghost use Rattle.rules.specs.Rules.{outcome_number};
 ghost use Rattle.layout.specs.Fields.{whole};
 ghost use Rattle.record_rules.specs.Fields.{ascending, count_lawful, is_none};
 
-use layout::COUNT_LIMIT;
+use layout::{COUNT_LIMIT, NO_NUMBER};
 use le::reads::{before, left, u16_at};
 use rules::{Refusal, ask};
 
-// Whether n bytes stand from the place on.
+// n bytes stand from the place on.
 pub fn whole(n: usize, s: &[u8], at: usize) -> Result<(), Refusal>
     ensures { outcome_number result ≡ whole n s.now at }
 {
@@ -35,5 +35,5 @@ pub fn count_lawful(n: u64) -> bool
 pub fn is_none(n: u16) -> bool
     ensures { result ≡ is_none n }
 {
-    n == u16::MAX
+    n == NO_NUMBER
 }

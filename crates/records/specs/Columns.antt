@@ -1,7 +1,7 @@
 -- A column's profile of 98 bytes. Definitions only.
 use Rattle.std.specs.Prelude.{ℕ, ◌+◌, cond, List, eqb, Option, Some, None}
 use Rattle.le.specs.Fields.{u16_at}
-use Rattle.layout.specs.Places.{base_column_offset, column_base_offset, column_lower_offset, column_upper_offset, column_frequency_offset, column_distinct_offset, column_sketch_offset}
+use Rattle.layout.specs.Places.{base_column_offset, column_base_offset, column_lower_offset, column_upper_offset, column_frequency_offset, column_distinct_offset, column_sketch_offset, no_number}
 use Rattle.scalar_bytes.specs.Reading.{bound_at}
 use Rattle.estimate.specs.Bytes.{estimate_at}
 use Rattle.records.specs.declared.columns.BaseColumn.{BaseColumn}
@@ -13,11 +13,11 @@ column_of table column = record { table = table; column = column }
 
 -- FFFF as the table: none
 unfoldable pub base_column_at : List ℕ → ℕ → Option BaseColumn
-base_column_at s at = cond (eqb (u16_at s at) 0xffff) None (Some (column_of (u16_at s at) (u16_at s (at + base_column_offset))))
+base_column_at s at = cond (eqb (u16_at s at) no_number) None (Some (column_of (u16_at s at) (u16_at s (at + base_column_offset))))
 
 -- FFFF: none
 unfoldable pub sketch_number_at : List ℕ → ℕ → Option ℕ
-sketch_number_at s at = cond (eqb (u16_at s at) 0xffff) None (Some (u16_at s at))
+sketch_number_at s at = cond (eqb (u16_at s at) no_number) None (Some (u16_at s at))
 
 unfoldable pub column_profile_at : List ℕ → ℕ → ColumnProfile
 unfolding base_column_at sketch_number_at bound_at estimate_at

@@ -9,8 +9,30 @@ use Rattle.records.specs.declared.expressions.BinaryOp.{BinaryOp}
 use Rattle.records.specs.declared.expressions.BinaryOp.TheVariants.{Eq, IsNotDistinctFrom, NotEq, Lt, LtEq, Gt, GtEq, Add, Subtract, Multiply, Divide}
 use Rattle.records.specs.declared.expressions.NaryOp.{NaryOp}
 use Rattle.records.specs.declared.expressions.NaryOp.TheVariants.{And, Or}
+use Rattle.records.specs.declared.expressions.ExpressionKind.{ExpressionKind}
+use Rattle.records.specs.declared.expressions.ExpressionKind.TheVariants.{Literal as LiteralKind, ColumnRef as ColumnRefKind, Unary as UnaryKind, Binary as BinaryKind, Nary as NaryKind, Like as LikeKind, Other as OtherKind}
 use Rattle.records.specs.declared.expressions.Expression.{Expression}
 use Rattle.records.specs.declared.expressions.Expression.TheVariants.{Literal, ColumnRef, Unary, Binary, Nary, Like, Other}
+
+-- what an expression's first byte says that it is; a number past the last kind gives the last
+abbrev pub kind_of : ℕ → ExpressionKind
+kind_of byte =
+    cond (eqb byte 0) LiteralKind
+    (cond (eqb byte 1) ColumnRefKind
+    (cond (eqb byte 2) UnaryKind
+    (cond (eqb byte 3) BinaryKind
+    (cond (eqb byte 4) NaryKind
+    (cond (eqb byte 5) LikeKind OtherKind)))))
+
+-- the number of a kind
+abbrev pub kind_code : ExpressionKind → ℕ
+kind_code LiteralKind = 0
+kind_code ColumnRefKind = 1
+kind_code UnaryKind = 2
+kind_code BinaryKind = 3
+kind_code NaryKind = 4
+kind_code LikeKind = 5
+kind_code OtherKind = 6
 
 -- a number past the last operator gives the last
 abbrev pub unary_op : ℕ → UnaryOp

@@ -1,11 +1,11 @@
 // The catalog: tables with their row counts, and keys of one column.
 ghost use Rattle.std.specs.Prelude.{◌≡◌, ◌<◌, ◌^◌};
-ghost use Rattle.records.specs.Catalog.{row_count_of, table_at, key_at};
+ghost use Rattle.records.specs.Catalog.{key_kind_of, row_count_of, table_at, key_at};
 
 use crate::columns::BaseColumn;
 use layout::{
     KEY_COLUMN_OFFSET, KEY_REFERENCED_COLUMN_OFFSET, KEY_REFERENCED_TABLE_OFFSET, KEY_TABLE_OFFSET,
-    TABLE_ROWS_OFFSET,
+    TABLE_ROWS_OFFSET, UNKNOWN_COUNT,
 };
 use le::reads::{byte_at, u16_at, u64_at};
 
@@ -25,10 +25,35 @@ pub enum Key {
     },
 }
 
+// What a key is, without its columns.
+#[derive(Clone, Copy, Debug, PartialEq, Eq)]
+pub enum KeyKind {
+    Unique,
+    Foreign,
+}
+
+// A number that stands for no kind of key.
+#[derive(Clone, Copy, Debug, PartialEq, Eq)]
+pub struct UnknownKeyKind;
+
+impl TryFrom<u8> for KeyKind {
+    type Error = UnknownKeyKind;
+
+    ghost try_from_gives = { λ n outcome. outcome ≡ key_kind_of n };
+
+    fn try_from(n: u8) -> Result<KeyKind, UnknownKeyKind> {
+        match n {
+            1 => Ok(KeyKind::Unique),
+            2 => Ok(KeyKind::Foreign),
+            _ => Err(UnknownKeyKind),
+        }
+    }
+}
+
 fn row_count_of(n: u64) -> Option<u64>
     ensures { result ≡ row_count_of n }
 {
-    (n != u64::MAX).then_some(n)
+    (n != UNKNOWN_COUNT).then_some(n)
 }
 
 #[tactic(auto, unfolding(crate::specs::Catalog::table_at))]
@@ -51,7 +76,7 @@ pub fn key_at(s: &[u8], at: usize) -> Key
         table: u16_at(s, at + KEY_TABLE_OFFSET),
         column: u16_at(s, at + KEY_COLUMN_OFFSET),
     };
-    if byte_at(s, at) == 1 {
+    if KeyKind::try_from(byte_at(s, at)) == Ok(KeyKind::Unique) {
         return Key::Unique(column);
     }
     Key::Foreign {

@@ -6,7 +6,7 @@ use estimate::Estimate;
 use estimate::bytes::estimate_at;
 use layout::{
     BASE_COLUMN_OFFSET, COLUMN_BASE_OFFSET, COLUMN_DISTINCT_OFFSET, COLUMN_FREQUENCY_OFFSET,
-    COLUMN_LOWER_OFFSET, COLUMN_SKETCH_OFFSET, COLUMN_UPPER_OFFSET,
+    COLUMN_LOWER_OFFSET, COLUMN_SKETCH_OFFSET, COLUMN_UPPER_OFFSET, NO_NUMBER,
 };
 use le::reads::u16_at;
 use scalar::Scalar;
@@ -38,7 +38,7 @@ fn base_column_at(s: &[u8], at: usize) -> Option<BaseColumn>
     ensures { result ≡ base_column_at s.now at }
 {
     let table = u16_at(s, at);
-    if table == u16::MAX {
+    if table == NO_NUMBER {
         return None;
     }
     Some(BaseColumn {
@@ -52,7 +52,7 @@ pub fn sketch_number_at(s: &[u8], at: usize) -> Option<u16>
     ensures { result ≡ sketch_number_at s.now at }
 {
     let n = u16_at(s, at);
-    (n != u16::MAX).then_some(n)
+    (n != NO_NUMBER).then_some(n)
 }
 
 #[tactic(auto, unfolding(crate::specs::Columns::column_profile_at))]

@@ -1,7 +1,7 @@
 // An expression. It names its children by their numbers, and an n-ary one names its operands by the
 // number of the first and how many there are.
 ghost use Rattle.std.specs.Prelude.{◌≡◌, ◌<◌, ◌^◌};
-ghost use Rattle.records.specs.Expressions.{unary_op, binary_op, nary_op, expression_at};
+ghost use Rattle.records.specs.Expressions.{kind_of, unary_op, binary_op, nary_op, expression_at};
 
 use layout::{
     EXPRESSION_FIRST_OFFSET, EXPRESSION_OP_OFFSET, EXPRESSION_SCALAR_OFFSET,
@@ -51,7 +51,35 @@ pub enum Expression {
     Other,
 }
 
-// Operators by their numbers. A number past the last gives the last.
+// What an expression is, without its fields.
+#[derive(Clone, Copy, Debug, PartialEq, Eq)]
+pub enum ExpressionKind {
+    Literal,
+    ColumnRef,
+    Unary,
+    Binary,
+    Nary,
+    Like,
+    Other,
+}
+
+// Kinds and operators by their numbers. A number past the last gives the last.
+
+impl From<u8> for ExpressionKind {
+    ghost from_gives = { λ n kind. kind ≡ kind_of n };
+
+    fn from(n: u8) -> ExpressionKind {
+        match n {
+            0 => ExpressionKind::Literal,
+            1 => ExpressionKind::ColumnRef,
+            2 => ExpressionKind::Unary,
+            3 => ExpressionKind::Binary,
+            4 => ExpressionKind::Nary,
+            5 => ExpressionKind::Like,
+            _ => ExpressionKind::Other,
+        }
+    }
+}
 
 impl From<u8> for UnaryOp {
     ghost from_gives = { λ n op. op ≡ unary_op n };
@@ -97,30 +125,30 @@ impl From<u8> for NaryOp {
     }
 }
 
-#[tactic(auto, unfolding(crate::specs::Expressions::expression_at))]
 pub fn expression_at(s: &[u8], at: usize) -> Expression
     requires { at < 2 ^ 60 }
     ensures { result ≡ expression_at s.now at }
 {
-    let kind = byte_at(s, at);
-    match kind {
-        0 => Expression::Literal(scalar_at(s, at + EXPRESSION_SCALAR_OFFSET)),
-        1 => Expression::ColumnRef(u16_at(s, at + EXPRESSION_FIRST_OFFSET)),
-        2 => Expression::Unary {
+    match ExpressionKind::from(byte_at(s, at)) {
+        ExpressionKind::Literal => Expression::Literal(scalar_at(s, at + EXPRESSION_SCALAR_OFFSET)),
+        ExpressionKind::ColumnRef => {
+            Expression::ColumnRef(u16_at(s, at + EXPRESSION_FIRST_OFFSET))
+        }
+        ExpressionKind::Unary => Expression::Unary {
             op: UnaryOp::from(byte_at(s, at + EXPRESSION_OP_OFFSET)),
             expr: u16_at(s, at + EXPRESSION_FIRST_OFFSET),
         },
-        3 => Expression::Binary {
+        ExpressionKind::Binary => Expression::Binary {
             op: BinaryOp::from(byte_at(s, at + EXPRESSION_OP_OFFSET)),
             left: u16_at(s, at + EXPRESSION_FIRST_OFFSET),
             right: u16_at(s, at + EXPRESSION_SECOND_OFFSET),
         },
-        4 => Expression::Nary {
+        ExpressionKind::Nary => Expression::Nary {
             op: NaryOp::from(byte_at(s, at + EXPRESSION_OP_OFFSET)),
             first: u16_at(s, at + EXPRESSION_FIRST_OFFSET),
             count: u16_at(s, at + EXPRESSION_SECOND_OFFSET),
         },
-        5 => Expression::Like,
-        _ => Expression::Other,
+        ExpressionKind::Like => Expression::Like,
+        ExpressionKind::Other => Expression::Other,
     }
 }

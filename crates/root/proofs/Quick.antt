@@ -2,7 +2,7 @@
 use Rattle.std.proofs.Common.{Option, Some, None, ◌≡◌, ℕ, zero, suc, ◌+◌, ◌-◌, ◌*◌, ◌/◌, ◌%◌, ◌^◌, ◌<◌, ◌≤◌, Bool, true, false, cond, ◌&&◌, pos, sym, refl, ap, ◌∙◌, subst, le_of_lt, mul_assoc, mul_comm, mul-le-mul, mul-add, arith, ltb-true, le-ltb, lt-ltb, le-leb, leb-true}
 use native.Mathlib.Nat.{mul-mul-mul_comm}
 use borrow.Author.Tests.{lt-leb}
-use Rattle.std.specs.Prelude.{SomeIff, option_and_then, nat_le, nat_lt}
+use Rattle.std.specs.Prelude.{MatchOption, SomeIff, option_and_then, nat_le, nat_lt}
 use Rattle.std.specs.Bool.{then_some}
 use Rattle.std.proofs.lemmas.Bool.{and_parts}
 use Rattle.std.proofs.lemmas.Option.{cond_some, none-some, option_and_then_some}
@@ -177,3 +177,8 @@ rounded_part digits (suc rest) z = go (digits % 2) refl
     go : (o : ℕ) → digits % 2 ≡ o → (digits + 1) / 2 ≡ rounded_by o (digits / 2) (suc rest)
     go zero e = omega arith
     go (suc o) e = omega arith
+
+-- the attempt's digits, or others of the same root
+pub attempt_or : {P : Type 0} (w g : ℕ) (o : Option Digits) (r : Digits) → o ≡ corrected w g → (P → RootDigits w r.digits r.rest) → MatchOption o P (λ x. r ≡ x) → RootDigits w r.digits r.rest
+attempt_or w g None r e p m = p m
+attempt_or w g (Some t) r e p m = subst (λ (x : Digits). RootDigits w x.digits x.rest) (sym m) (attempt_digits w g t e)

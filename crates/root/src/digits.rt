@@ -3,11 +3,11 @@ ghost use Rattle.std.specs.Prelude.{◌≡◌, ◌+◌, ◌*◌, ◌^◌, ◌<�
 ghost use Rattle.root.specs.Digits.{RootDigits, all_digits};
 ghost use Rattle.root.specs.Guess.{guessed, guess, remainder_of, corrected};
 
-// 2^27: a whole root lies below it, and a guess is split at it.
+// 2^27: a guess is split at it.
 const PART: u64 = 0x800_0000;
 
 // So many binary digits more than the whole root are found.
-const MORE_DIGITS: u64 = 27;
+const MORE_DIGITS: u32 = 27;
 
 // 2^64.
 const GUESS_END: f64 = 18446744073709551616.0;
@@ -24,52 +24,25 @@ const MIDDLE_LIMIT: u64 = 0x10_0000_0000;
 // A guess is moved up by less than this.
 const STEP_LIMIT: u64 = 64;
 
-// digits * digits + rest is the number, and rest is at most 2 * digits.
+// digits * digits + rest is the number, and rest is at most 2 * digits. The number is w * 4^27 with w below
+// 2^54, by a clause at each function: a type that holds w with it would be longer.
 #[derive(Clone, Copy)]
 pub struct Digits {
     pub digits: u64,
     pub rest: u64,
 }
 
-// The whole part of the root of w, by halving the interval r .. r + step that it lies in.
-fn whole_root(w: u64) -> u64
-    requires { w < 2 ^ 54 }
-    ensures { (result * result ≤ w) × (w < (result + 1) * (result + 1)) × (result < 2 ^ 27) }
-{
-    let mut r = 0u64;
-    let mut step = PART;
-    while step > 1 {
-        let half = step / 2;
-        let t = r + half;
-        if t * t <= w {
-            r = t;
-            step -= half;
-        } else {
-            step = half;
-        }
-    }
-    r
-}
-
-// The root of w * 4^27 digit by digit: 27 binary digits more than the whole root has.
-fn digit_by_digit(w: u64) -> Digits
+// The root of w * 4^27 by the library's whole root.
+fn exact_digits(w: u64) -> Digits
     requires { w < 2 ^ 54 }
     ensures { RootDigits w result.digits result.rest }
 {
-    let mut r = whole_root(w);
-    let mut rest = w - r * r;
-    for _ in 0..MORE_DIGITS {
-        let t = 4 * r + 1;
-        let m = 4 * rest;
-        if t <= m {
-            rest = m - t;
-            r = 2 * r + 1;
-        } else {
-            rest = m;
-            r = 2 * r;
-        }
+    let n = u128::from(w) << (2 * MORE_DIGITS);
+    let digits = n.isqrt();
+    Digits {
+        digits: digits as u64,
+        rest: (n - digits * digits) as u64,
     }
-    Digits { digits: r, rest }
 }
 
 // Near the root of w * 4^27 and a little below it, by the processor's arithmetic, where x is the
@@ -98,6 +71,7 @@ fn guess(w: u64) -> u64
 }
 
 // What g * g leaves of w * 4^27, where it leaves little.
+#[tactic(auto, using(crate::proofs::Quick::remainder_none, crate::proofs::Quick::remainder_end))]
 fn remainder_of(w: u64, g: u64) -> Option<u64>
     requires { (w < 2 ^ 54) × (g < 2 ^ 54) }
     ensures value { result ≡ remainder_of w g }
@@ -105,7 +79,7 @@ fn remainder_of(w: u64, g: u64) -> Option<u64>
 {
     let a = g / PART;
     let b = g % PART;
-    // `?` at these two takes 1 % more instructions for a root.
+    // Written out, as `?` at these two takes 1 % more instructions for a root.
     let Some(e) = w.checked_sub(a * a) else {
         return None;
     };
@@ -122,6 +96,7 @@ fn remainder_of(w: u64, g: u64) -> Option<u64>
 }
 
 // The root of w * 4^27 from a number a little below it, where that passes the tests.
+#[tactic(auto, using(crate::proofs::Quick::attempt_nowhere, crate::proofs::Quick::attempt_far, crate::proofs::Quick::attempt_short, crate::proofs::Quick::attempt_made), unfolding(crate::specs::Guess::corrected))]
 fn corrected(w: u64, g: u64) -> Option<Digits>
     requires { w < 2 ^ 54 }
     ensures { result ≡ corrected w g }
@@ -139,15 +114,12 @@ fn corrected(w: u64, g: u64) -> Option<Digits>
     (rest <= 2 * digits).then_some(Digits { digits, rest })
 }
 
-// All digits of the root of w * 4^27 and the remainder: a guess that is tested, and digit by digit
+// All digits of the root of w * 4^27 and the remainder: a guess that is tested, and the library's root
 // where the test fails.
 pub fn root_digits(w: u64) -> Digits
     requires { w < 2 ^ 54 }
     ensures root_digits { RootDigits w result.digits result.rest }
     ensures value { result ≡ all_digits w }
 {
-    match corrected(w, guess(w)) {
-        Some(found) => found,
-        None => digit_by_digit(w),
-    }
+    corrected(w, guess(w)).unwrap_or_else(|| exact_digits(w))
 }

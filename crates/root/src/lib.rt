@@ -32,10 +32,11 @@ fn shift_of(d: u64) -> u64
     requires { (0 < d) × (d < 2 ^ 53) }
     ensures { Shift d result }
 {
-    d.leading_zeros() as u64 - 11
+    u64::from(d.leading_zeros()) - 11
 }
 
 // m * 2^k smallest values, with an m of 53 digits, or 2^53.
+#[tactic(auto, using(float::proofs::BitLaws::no_nan, float::proofs::BitLaws::units_bits))]
 fn assembled(m: u64, k: u64) -> f64
     requires { (2 ^ 52 ≤ m) × (m ≤ 2 ^ 53) × (k < 2000) }
     ensures { result ≡ units binary64 false m k }
@@ -44,6 +45,7 @@ fn assembled(m: u64, k: u64) -> f64
 }
 
 // The root of d * 2^e squares of the smallest value.
+#[tactic(auto, using(crate::proofs::Scaled::scaled))]
 fn scaled_root(d: u64, e: u64) -> f64
     requires { (0 < d) × (d < 2 ^ 53) × (1074 ≤ e) × (e < 3120) }
     ensures { result ≡ round_root binary64 (d * 2 ^ e) }

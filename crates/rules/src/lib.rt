@@ -34,12 +34,12 @@ pub enum Refusal {
     Output,
 }
 
-impl Refusal {
-    // The number that document 01 gives it.
-    pub fn number(self) -> u8
-        ensures { result ≡ refusal_number self }
-    {
-        match self {
+// The number that document 01 gives it.
+impl From<Refusal> for u8 {
+    ghost from_gives = { λ refusal n. n ≡ refusal_number refusal };
+
+    fn from(refusal: Refusal) -> u8 {
+        match refusal {
             Refusal::Length => 1,
             Refusal::Truncated => 2,
             Refusal::Count => 3,

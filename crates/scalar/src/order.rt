@@ -16,6 +16,9 @@ fn option_order<T: PartialOrd + Copy>(left: T, right: Option<T>) -> Option<Order
     left.partial_cmp(&right?)
 }
 
+// The source's function, and not an impl of PartialOrd: a Null has no order, not even to itself, and `==` would have to
+// say so too.
+#[tactic(auto, unfolding(crate::specs::Order::scalar_order))]
 pub fn scalar_order(left: Scalar, right: Scalar) -> Option<Ordering>
     ensures { result ≡ scalar_order left right }
 {

@@ -1,4 +1,4 @@
-// A scalar as a value of one type, where it is of that type.
+// A scalar as a value of one type, where it is of that type. No `TryFrom`: five of the types give an i64.
 ghost use Rattle.std.specs.Prelude.{◌≡◌};
 ghost use Rattle.scalar.specs.Types.{as_boolean, as_int32, as_int64, as_float64, as_decimal128, as_date32, as_month_day_nano, as_day_time};
 

@@ -4,15 +4,18 @@ use mathlib.Core.Path.{◌≡◌, refl, sym, ap, ◌∙◌}
 use mathlib.Core.Bool.{Bool, true, false, cond, ◌&&◌}
 use mathlib.Core.List.{List}
 use native.Mathlib.Omega.{arith}
-use native.Mathlib.Nat.{suc-mul, mul-div_cancel, zero-lt-suc, mul-le-mul_left, one-le-pow, pow-le-pow_right, pow-suc, one-mul, mul-suc, mod-eq_of_lt, add-mul-mod_self_right}
-use lib.Dec.{eqb}
+use native.Mathlib.Nat.{suc-mul, mul-div_cancel, zero-lt-suc, mul-le-mul_left, one-le-pow, pow-le-pow_right, pow-suc, one-mul, mul-suc, mod-eq_of_lt, add-mul-mod_self_right, add-zero}
+use lib.Dec.{eqb, ltb}
 use lib.IntN.{pos, negsuc}
-use borrow.Author.Tests.{eq-eqb, ne_eqb, lt-ltb, le-ltb, eqb-true, eqb-false}
+use borrow.Author.Tests.{eq-eqb, ne_eqb, lt-ltb, le-ltb, ltb-true, ltb-false, eqb-true, eqb-false}
+use Rattle.std.specs.List.{list_all, range_with_len}
 use Rattle.le.specs.Fields.{field_at}
 use Rattle.signed.specs.Signed.{signed, unsigned}
 use Rattle.le.proofs.FieldLaws.{Bytes, field_below, field_split, zeros_split}
 use lib.Pow.{pow-add}
+use Rattle.le.specs.Integers.{i64_at}
 use Rattle.scalar_bytes.specs.Reading.{zeros_at, sign_extended}
+use Rattle.scalar_bytes.specs.Encoding.{extension}
 
 -- ---- the sign extension
 
@@ -56,13 +59,28 @@ module _ (s : List ℕ) (at : ℕ) where
       (λ q. is_top 0xffff_ffff_ffff_ffff (field_at 8 s at) (field_at 8 s (at + 8)) m (sym e ∙ q)) in
       r ∙ sym (ap (λ (t : Bool). eqb (field_at 16 s at) (unsigned 16 (cond t (pos (field_at 8 s at)) (negsuc (2 ^ 64 - suc (field_at 8 s at)))))) (le-ltb (field_at 8 s at) (2 ^ 63) h))
 
+  pub extension_read : field_at 8 s at < 2 ^ 64 → eqb (field_at 8 s (at + 8)) (extension (i64_at s at)) ≡ sign_extended s at
+  unfolding signed
+  extension_read k = go (ltb (field_at 8 s at) (2 ^ 63)) (ltb-true (field_at 8 s at) (2 ^ 63)) (ltb-false (field_at 8 s at) (2 ^ 63))
+    where
+      go : (b : Bool) → (b ≡ true → field_at 8 s at < 2 ^ 63) → (b ≡ false → 2 ^ 63 ≤ field_at 8 s at) → eqb (field_at 8 s (at + 8)) (extension (cond b (pos (field_at 8 s at)) (negsuc (2 ^ 64 - suc (field_at 8 s at))))) ≡ sign_extended s at
+      go true y n = extended_low (y refl)
+      go false y n = extended_high (n refl) k
+
 -- ---- zeros, part by part
 
-pub zeros_more : (n m : ℕ) (s : List ℕ) (at : ℕ) → field_at n s at ≡ 0 → field_at m s (at + n) ≡ 0 → field_at (n + m) s at ≡ 0
-zeros_more n m s at e f =
-    let p : field_at m s (at + n) * 256 ^ n ≡ 0 * 256 ^ n = ap (λ (x : ℕ). x * 256 ^ n) f in
-    let q = field_split n m s at in
-    omega arith
+-- as many words from the k-th on
+words_zeros : (s : List ℕ) (at k n : ℕ) → list_all (λ i. eqb (field_at 8 s (at + 8 * i)) 0) (range_with_len k n) ≡ zeros_at (8 * n) s (at + 8 * k)
+unfolding field_at
+words_zeros s at k zero = refl
+words_zeros s at k (suc n) =
+    let next : at + 8 * (k + 1) ≡ at + 8 * k + 8 = omega arith in
+    let more : 8 + 8 * n ≡ 8 * suc n = omega arith in
+    ap (λ (t : Bool). eqb (field_at 8 s (at + 8 * k)) 0 && t) (words_zeros s at (k + 1) n ∙ ap (zeros_at (8 * n) s) next)
+    ∙ (zeros_split 8 (8 * n) s (at + 8 * k) ∙ ap (λ (m : ℕ). zeros_at m s (at + 8 * k)) more)
+
+pub all_zeros : (s : List ℕ) (at n : ℕ) → list_all (λ i. eqb (field_at 8 s (at + 8 * i)) 0) (range_with_len 0 n) ≡ zeros_at (8 * n) s at
+all_zeros s at n = words_zeros s at 0 n ∙ ap (zeros_at (8 * n) s) (add-zero at)
 
 zeros_part : (n m k : ℕ) (s : List ℕ) (at : ℕ) → n + m ≤ k → field_at k s at ≡ 0 → field_at m s (at + n) ≡ 0
 zeros_part n m k s at h e =

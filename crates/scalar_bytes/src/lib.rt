@@ -1,6 +1,7 @@
 // The 19 bytes of a scalar in a sheet: read with the scalar rules, and written.
 #![tactic(auto)]
 
+mod digits;
 pub mod reads;
-mod tags;
+pub mod tags;
 pub mod writes;

@@ -1,9 +1,13 @@
 // A scalar's 19 bytes, read at any place, and the scalar rules.
+//
+// A place is a usize, and what is read stands at sums: `at < 2 ^ 61` and its like say that they fit. Each sum is a new
+// place, so a type that held the bound would owe it anew at each of them.
 ghost use Rattle.std.specs.Prelude.{◌≡◌, ◌+◌, ◌-◌, ◌≤◌, ◌<◌, ◌^◌};
 ghost use Rattle.rules.specs.Rules.{ask, outcome_number};
 ghost use Rattle.layout.specs.Places.{scalar_value_size};
 ghost use Rattle.scalar_bytes.specs.Reading.{tag_allowed, zeros_at, float64_lawful, sign_extended, decimal_lawful, payload_refusal, scalar_refusal, scalar_at, bound_at};
 
+use crate::digits::extension;
 use crate::tags::{
     ABSENT, BOOLEAN, DATE32, DAY_TIME, DECIMAL128, FLOAT64, INT32, INT64, MONTH_DAY_NANO, NULL,
 };
@@ -38,12 +42,8 @@ pub fn zeros_at(n: usize, s: &[u8], at: usize) -> bool
     ensures { result ≡ zeros_at n s.now at }
 {
     let words = n / WORD;
-    for k in 0..words {
-        if u64_at(s, at + WORD * k) != 0 {
-            return false;
-        }
-    }
-    u64_at(s, at + WORD * words) % (1 << (8 * (n % WORD))) == 0
+    (0..words).all(|k| u64_at(s, at + WORD * k) == 0)
+        && u64_at(s, at + WORD * words) % (1 << (8 * (n % WORD))) == 0
 }
 
 // Whether a sheet may hold x: +0, or a number of either sign no nearer to zero than 2^-400 and no
@@ -57,17 +57,12 @@ fn float64_lawful(x: f64) -> bool
 }
 
 // Sixteen bytes that are the sign extension of the lower eight.
+#[tactic(auto, using(signed::proofs::SignedLaws::kept, crate::proofs::ReadingLaws::extension_read, le::proofs::FieldLaws::field_below))]
 fn sign_extended(s: &[u8], at: usize) -> bool
     requires { at < 2 ^ 63 }
     ensures { result ≡ sign_extended s.now at }
 {
-    let low = u64_at(s, at);
-    let high = u64_at(s, at + INT64_SIZE);
-    if low < 0x8000_0000_0000_0000 {
-        high == 0
-    } else {
-        high == 0xffff_ffff_ffff_ffff
-    }
+    u64_at(s, at + INT64_SIZE) == extension(i64_at(s, at))
 }
 
 fn decimal_lawful(s: &[u8], at: usize) -> bool
@@ -76,7 +71,7 @@ fn decimal_lawful(s: &[u8], at: usize) -> bool
 {
     let precision = byte_at(s, at);
     let scale = byte_at(s, at + DECIMAL_SCALE_OFFSET);
-    1 <= precision && precision <= 38 && scale <= 22 && sign_extended(s, at + DECIMAL_DIGITS_OFFSET)
+    (1..=38).contains(&precision) && scale <= 22 && sign_extended(s, at + DECIMAL_DIGITS_OFFSET)
 }
 
 fn tag_allowed(place: ScalarPlace, tag: u8) -> bool
@@ -144,27 +139,26 @@ pub fn scalar_at(s: &[u8], at: usize) -> Scalar
     requires { at < 2 ^ 61 }
     ensures { result ≡ scalar_at s.now at }
 {
-    let tag = byte_at(s, at);
-    let value = SCALAR_VALUE_OFFSET;
-    match tag {
-        BOOLEAN => Scalar::Boolean(byte_at(s, at + value) == 1),
-        INT32 => Scalar::Int32(i32_at(s, at + value)),
-        INT64 => Scalar::Int64(i64_at(s, at + value)),
-        FLOAT64 => Scalar::Float64(f64_at(s, at + value)),
+    let value = at + SCALAR_VALUE_OFFSET;
+    match byte_at(s, at) {
+        BOOLEAN => Scalar::Boolean(byte_at(s, value) == 1),
+        INT32 => Scalar::Int32(i32_at(s, value)),
+        INT64 => Scalar::Int64(i64_at(s, value)),
+        FLOAT64 => Scalar::Float64(f64_at(s, value)),
         DECIMAL128 => Scalar::Decimal128 {
-            value: i64_at(s, at + (value + DECIMAL_DIGITS_OFFSET)),
-            precision: byte_at(s, at + value),
-            scale: byte_at(s, at + (value + DECIMAL_SCALE_OFFSET)),
+            value: i64_at(s, value + DECIMAL_DIGITS_OFFSET),
+            precision: byte_at(s, value),
+            scale: byte_at(s, value + DECIMAL_SCALE_OFFSET),
         },
-        DATE32 => Scalar::Date32(i32_at(s, at + value)),
+        DATE32 => Scalar::Date32(i32_at(s, value)),
         MONTH_DAY_NANO => Scalar::IntervalMonthDayNano {
-            months: i32_at(s, at + value),
-            days: i32_at(s, at + (value + MONTH_DAY_NANO_DAYS_OFFSET)),
-            nanoseconds: i64_at(s, at + (value + MONTH_DAY_NANO_NANOSECONDS_OFFSET)),
+            months: i32_at(s, value),
+            days: i32_at(s, value + MONTH_DAY_NANO_DAYS_OFFSET),
+            nanoseconds: i64_at(s, value + MONTH_DAY_NANO_NANOSECONDS_OFFSET),
         },
         DAY_TIME => Scalar::IntervalDayTime {
-            days: i32_at(s, at + value),
-            milliseconds: i32_at(s, at + (value + DAY_TIME_MILLISECONDS_OFFSET)),
+            days: i32_at(s, value),
+            milliseconds: i32_at(s, value + DAY_TIME_MILLISECONDS_OFFSET),
         },
         _ => Scalar::Null,
     }

@@ -1,5 +1,5 @@
-// The tags of a scalar: its first byte. 7, a text, is in no sheet. Bytes, and not an enum: what is read has any byte
-// there, and most that ask name one or two.
+// The tags of a scalar: its first byte. 7, a text, is in no sheet. Bytes, and not an enum: by `TryFrom` each
+// tag would stand once more in an arm, and a match on what is read would still have one for the bytes that are no tag.
 pub const NULL: u8 = 0;
 
 pub const BOOLEAN: u8 = 1;

@@ -1,4 +1,5 @@
-// A scalar's 19 bytes, written to the front of the slice that is lent.
+// A scalar's 19 bytes, written to the front of the slice that is lent. That there is room is asked of the caller, and
+// not told by an array's type: the caller has a slice, and would have to cut an array out of it for each scalar.
 ghost use Rattle.std.specs.Prelude.{◌≡◌, ◌∷◌, ◌++◌, [], ◌≤◌, length, replicate};
 ghost use Rattle.float.specs.Integers.{bit};
 ghost use Rattle.layout.specs.Places.{scalar_size, decimal_digits_size};
@@ -7,11 +8,11 @@ ghost use Rattle.signed.specs.Signed.{unsigned};
 ghost use Rattle.le.specs.Integers.{i32_bytes, i64_bytes};
 ghost use Rattle.scalar_bytes.specs.Encoding.{encoded_bits, extension, encoded_bytes, padded, scalar_bytes, bound_bytes};
 
+use crate::digits::extension;
 use crate::tags::{
     ABSENT, BOOLEAN, DATE32, DAY_TIME, DECIMAL128, FLOAT64, INT32, INT64, MONTH_DAY_NANO, NULL,
 };
 use float::bits::bits_of_float;
-use float::integers::one_if;
 use layout::{
     DAY_TIME_MILLISECONDS_OFFSET, DECIMAL_DIGITS_OFFSET, DECIMAL_SCALE_OFFSET, INT64_SIZE,
     MONTH_DAY_NANO_DAYS_OFFSET, MONTH_DAY_NANO_NANOSECONDS_OFFSET, SCALAR_SIZE,
@@ -34,6 +35,7 @@ const NANOSECONDS_AT: usize = SCALAR_VALUE_OFFSET + MONTH_DAY_NANO_NANOSECONDS_O
 
 const MILLISECONDS_AT: usize = SCALAR_VALUE_OFFSET + DAY_TIME_MILLISECONDS_OFFSET;
 
+#[tactic(auto, unfolding(le::specs::Fields::onto))]
 fn put_zeros(out: &mut [u8])
     requires { scalar_size ≤ length out.old }
     ensures { out.new ≡ onto (replicate scalar_size 0) out.old }
@@ -46,7 +48,7 @@ fn put_boolean(out: &mut [u8], b: bool)
     ensures { out.new ≡ onto (1 ∷ bit b ∷ []) out.old }
 {
     put_byte(out, BOOLEAN);
-    put_byte(&mut out[SCALAR_VALUE_OFFSET..], one_if(b));
+    put_byte(&mut out[SCALAR_VALUE_OFFSET..], u8::from(b));
 }
 
 fn put_int32(out: &mut [u8], tag: u8, x: i32)
@@ -78,13 +80,6 @@ fn put_float64(out: &mut [u8], x: f64)
 {
     put_byte(out, FLOAT64);
     put_u64(&mut out[SCALAR_VALUE_OFFSET..], encoded_bits(x));
-}
-
-// The upper eight bytes of a number of 64 bits in sixteen.
-fn extension(x: i64) -> u64
-    ensures { result ≡ extension x }
-{
-    if x < 0 { 0xffff_ffff_ffff_ffff } else { 0 }
 }
 
 fn put_decimal(out: &mut [u8], value: i64, precision: u8, scale: u8)
@@ -141,6 +136,7 @@ fn put_encoded(out: &mut [u8], x: Scalar)
     }
 }
 
+#[tactic(auto, using(le::proofs::OntoLaws::onto_zeros, crate::proofs::WritingLaws::encoded_small))]
 pub fn put_scalar(out: &mut [u8], x: Scalar)
     requires { scalar_size ≤ length out.old }
     ensures { out.new ≡ onto (scalar_bytes x) out.old }

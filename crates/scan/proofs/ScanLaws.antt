@@ -1,12 +1,13 @@
 -- The first record with a number, where it stands in the bytes, is the first in the list. Assumes nothing.
-use Prim.Native.Nat.{ℕ, zero, suc, ◌+◌, ◌-◌, ◌*◌, ◌<◌, ◌≤◌}
-use mathlib.Core.Path.{◌≡◌, refl, sym, ap, ◌∙◌}
+use Prim.Native.Nat.{ℕ, zero, suc, ◌+◌, ◌*◌, ◌^◌, ◌<◌, ◌≤◌}
+use mathlib.Core.Path.{◌≡◌, refl, sym, ap, ◌∙◌, subst}
 use mathlib.Core.Bool.{Bool, true, false, cond}
 use mathlib.Core.List.{List}
 use native.Mathlib.Omega.{arith}
-use borrow.Author.Tests.{eq-eqb, ne_eqb}
 use lib.Dec.{eqb}
-use Rattle.std.specs.Prelude.{Option, None, Some, is_some}
+use Rattle.std.proofs.Math.Nat.{mul-le-mul_right}
+use Rattle.std.specs.Prelude.{Option, None, Some, IfSome, is_some, option_map}
+use Rattle.std.specs.List.{find, range_with_len}
 use Rattle.le.specs.Fields.{u16_at}
 use Rattle.records.specs.Lists.{tabulate_from}
 use Rattle.sheet.specs.Order.{record_at}
@@ -15,38 +16,57 @@ use Rattle.sheet.specs.declared.order.Kind.{Kind}
 use Rattle.sheet.proofs.PlaceLaws.{Fixed, record_next}
 use Rattle.scan.specs.Scan.{first_with, is_numbered, place_from, first_place}
 
--- ---- the loop, of which `count` records stand from `first` on
+-- ---- the search, of `n` records from the i-th on, the first of all of which stands at `first`
 
-module _ (s : List ℕ) (size number first count : ℕ) where
-  -- among those from the i-th on
-  abbrev pub place_after : ℕ → Option ℕ
-  place_after i = place_from s size number (first + size * i) (count - i)
+module _ (s : List ℕ) (size number first : ℕ) where
+  abbrev here : ℕ → ℕ
+  here i = first + size * i
 
-  module _ (i : ℕ) (whole : Option ℕ) where
-    one_more : i < count → place_after i ≡ cond (eqb (u16_at s (first + size * i)) number) (Some (first + size * i)) (place_after (i + 1))
-    unfolding place_from
-    one_more h =
-        ap (place_from s size number (first + size * i)) (left count i h)
-        ∙ ap (λ (at : ℕ). cond (eqb (u16_at s (first + size * i)) number) (Some (first + size * i)) (place_from s size number at (count - (i + 1)))) (next first size i)
-      where
-        left : (n i : ℕ) → i < n → n - i ≡ suc (n - (i + 1))
-        left n i h = omega arith
+  abbrev pub is_here : ℕ → Bool
+  is_here i = eqb (u16_at s (here i)) number
 
-        next : (first size i : ℕ) → first + size * i + size ≡ first + size * (i + 1)
-        next first size i = grind arith
+  from_here : (n i : ℕ) → option_map here (find is_here (range_with_len i n)) ≡ place_from s size number (here i) n
+  unfolding place_from
+  from_here zero i = refl
+  from_here (suc n) i =
+      one (is_here i) (find is_here (range_with_len (i + 1) n))
+      ∙ ap (cond (is_here i) (Some (here i))) (from_here n (i + 1) ∙ ap (λ (at : ℕ). place_from s size number at n) (next first size i))
+    where
+      one : (b : Bool) (o : Option ℕ) → option_map here (cond b (Some i) o) ≡ cond b (Some (here i)) (option_map here o)
+      one true o = refl
+      one false o = refl
 
-    pub place_found : i < count → u16_at s (first + size * i) ≡ number → place_after i ≡ whole → Some (first + size * i) ≡ whole
-    place_found h e rest = ap (λ (b : Bool). cond b (Some (first + size * i)) (place_after (i + 1))) (sym (eq-eqb (u16_at s (first + size * i)) number e)) ∙ sym (one_more h) ∙ rest
+      next : (first size i : ℕ) → first + size * (i + 1) ≡ first + size * i + size
+      next first size i = grind arith
 
-    pub place_next : i < count → (u16_at s (first + size * i) ≡ number → ⊥) → place_after i ≡ whole → place_after (i + 1) ≡ whole
-    place_next h ne rest = ap (λ (b : Bool). cond b (Some (first + size * i)) (place_after (i + 1))) (sym (ne_eqb (u16_at s (first + size * i)) number ne)) ∙ sym (one_more h) ∙ rest
+  -- what a search over all their numbers finds
+  pub found_place : (count : ℕ) (r : Option ℕ) → r ≡ find is_here (range_with_len 0 count) → option_map here r ≡ place_from s size number first count
+  found_place count r is = ap (option_map here) is ∙ from_here count 0 ∙ ap (λ (at : ℕ). place_from s size number at count) (at_first first size)
+    where
+      at_first : (first size : ℕ) → first + size * 0 ≡ first
+      at_first first size = omega arith
 
-    pub place_none : count ≤ i → place_after i ≡ whole → None ≡ whole
-    unfolding place_from
-    place_none h rest = ap (place_from s size number (first + size * i)) (none count i h) ∙ rest
-      where
-        none : (n i : ℕ) → n ≤ i → 0 ≡ n - i
-        none n i h = omega arith
+  within : (n i : ℕ) → IfSome (find is_here (range_with_len i n)) (λ k. k < i + n)
+  within zero i = tt
+  within (suc n) i = go (is_here i) (find is_here (range_with_len (i + 1) n)) (within n (i + 1))
+    where
+      go : (b : Bool) (o : Option ℕ) → IfSome o (λ k. k < i + 1 + n) → IfSome (cond b (Some i) o) (λ k. k < i + suc n)
+      go true o h = omega arith
+      go false None h = tt
+      go false (Some k) h = omega arith
+
+  pub found_below : (count i : ℕ) → Some i ≡ find is_here (range_with_len 0 count) → i < count
+  found_below count i is = subst (λ (o : Option ℕ). IfSome o (λ k. k < count)) (sym is) (go (find is_here (range_with_len 0 count)) (within count 0))
+    where
+      go : (o : Option ℕ) → IfSome o (λ k. k < 0 + count) → IfSome o (λ k. k < count)
+      go None h = tt
+      go (Some k) h = omega arith
+
+-- a place among 2 ^ 16 short records
+pub place_small : (size i : ℕ) → size ≤ 255 → i < 2 ^ 16 → size * i < 2 ^ 24
+place_small size i h k =
+    let m : size * i ≤ 255 * i = mul-le-mul_right i h in
+    omega arith
 
 -- ---- the record that stands there
 

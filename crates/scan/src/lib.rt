@@ -1,4 +1,6 @@
-// The scan that finds a record by its number.
+// The scan that finds a record by its number. Nothing promises an order of the records, so it is no
+// binary search. Here and in the crates above, the bytes and the start of a section go side by side: the
+// bytes stay, and which section it is changes from call to call.
 #![tactic(auto)]
 
 ghost use Rattle.std.specs.Prelude.{◌≡◌, ◌≤◌};
@@ -13,12 +15,8 @@ pub fn first_place(s: &[u8], start: u16, size: usize, number: u16) -> Option<u32
     requires { size ≤ 255 }
     ensures { result ≡ first_place s.now start size number }
 {
-    let first = start as usize + COUNT_SIZE;
-    for i in 0..u16_at(s, start as usize) as usize {
-        let at = first + size * i;
-        if u16_at(s, at) == number {
-            return Some(at as u32);
-        }
-    }
-    None
+    let first = usize::from(start) + COUNT_SIZE;
+    let count = usize::from(u16_at(s, usize::from(start)));
+    let i = (0..count).find(|i| u16_at(s, first + size * i) == number)?;
+    Some((first + size * i) as u32)
 }

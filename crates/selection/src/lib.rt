@@ -10,7 +10,8 @@ ghost use Rattle.selection.specs.Selected.{selected};
 use layout::NUMBER_SIZE;
 use number_bytes::put_number;
 
-// A test of numbers.
+// A test of numbers. A trait and not a closure: the contracts name what it computes, which each caller would have
+// to say of its closure.
 pub trait Test {
     ghost test: { Self → ℕ → Bool };
 
@@ -33,6 +34,7 @@ pub fn put_selected<T: Test>(passing: &T, limit: u16, count: usize, out: &mut [u
 {
     let size = NUMBER_SIZE * count;
     let mut at: usize = 0;
+    // Not a loop over the filter: the proof of one in generic code did not close.
     for n in 0..limit {
         if at == size {
             break;

@@ -17,6 +17,7 @@ use Rattle.records.specs.declared.columns.ColumnProfile.{ColumnProfile}
 use Rattle.records.specs.declared.expressions.Expression.{Expression}
 use Rattle.sheet.specs.Order.{record_at, sections_in}
 use Rattle.sheet.specs.declared.Sections.{Sections}
+use Rattle.sheet.specs.declared.View.{View}
 use Rattle.sheet.specs.declared.order.Kind.{Kind}
 use Rattle.sheet.specs.declared.order.Kind.TheVariants.{Rows, Settings, Sketches, Tables, Keys, Columns, Classes, Expressions, Operands, Conjuncts}
 
@@ -60,6 +61,10 @@ sheet_of s x = record {
   expressions = records_in Expressions expression_at s x.expressions;
   operands = records_in Operands u16_at s x.operands;
 }
+
+-- what a view is of
+abbrev pub viewed : View → Sheet
+viewed view = sheet_of view.bytes.now view.sections
 
 -- every list of bytes, also one that is refused
 unfoldable pub sheet_in : List ℕ → Sheet

@@ -1,4 +1,5 @@
-// The sections of a sheet in their order.
+// The sections of a sheet in their order. Numbers and not an enum: they index the list of the sections' starts, and as
+// an enum each would be cast where it does.
 ghost use Rattle.std.specs.Prelude.{◌≡◌};
 ghost use Rattle.sheet.specs.Order.{kind_at, sections_of};
 
@@ -45,7 +46,7 @@ pub enum Kind {
     Conjuncts,
 }
 
-// By cases and not by TryFrom: two kinds stand twice, and every number gives a kind.
+// No `From`: the number is a section's and not a kind's. No `TryFrom`: every number gives a kind.
 pub fn kind_at(k: usize) -> Kind
     ensures { result ≡ kind_at k }
 {
@@ -63,21 +64,23 @@ pub fn kind_at(k: usize) -> Kind
     }
 }
 
-pub fn sections_of(starts: [u16; SECTION_COUNT]) -> Sections
-    ensures { result ≡ sections_of starts }
-{
-    Sections {
-        rows: starts[ROWS],
-        settings: starts[SETTINGS],
-        sketches: starts[SKETCHES],
-        tables: starts[TABLES],
-        keys: starts[KEYS],
-        left_columns: starts[LEFT_COLUMNS],
-        right_columns: starts[RIGHT_COLUMNS],
-        left_classes: starts[LEFT_CLASSES],
-        right_classes: starts[RIGHT_CLASSES],
-        expressions: starts[EXPRESSIONS],
-        operands: starts[OPERANDS],
-        conjuncts: starts[CONJUNCTS],
+impl From<[u16; SECTION_COUNT]> for Sections {
+    ghost from_gives = { λ starts sections. sections ≡ sections_of starts };
+
+    fn from(starts: [u16; SECTION_COUNT]) -> Sections {
+        Sections {
+            rows: starts[ROWS],
+            settings: starts[SETTINGS],
+            sketches: starts[SKETCHES],
+            tables: starts[TABLES],
+            keys: starts[KEYS],
+            left_columns: starts[LEFT_COLUMNS],
+            right_columns: starts[RIGHT_COLUMNS],
+            left_classes: starts[LEFT_CLASSES],
+            right_classes: starts[RIGHT_CLASSES],
+            expressions: starts[EXPRESSIONS],
+            operands: starts[OPERANDS],
+            conjuncts: starts[CONJUNCTS],
+        }
     }
 }

@@ -18,8 +18,8 @@ pub enum Shape {
     Counted { head: u16, count: u16, item: u16 },
 }
 
-// What is carried along from record to record: how many items there were, how many operands, whose
-// operand the last one was.
+// What is carried along from record to record: how many items there were, how many operands, whose operand the last
+// one was. An enum and no trait: the table gives it with the rest of a section, as a value.
 #[derive(Clone, Copy)]
 pub enum Tally {
     Nothing,
@@ -28,6 +28,7 @@ pub enum Tally {
     Owner,
 }
 
+// `filled` is the operands' alone: as many as the runs of the expressions hold.
 #[derive(Clone, Copy)]
 pub struct Section {
     pub least: u16,
@@ -103,10 +104,10 @@ pub fn shape_end(s: &[u8], shape: Shape, at: usize) -> usize
     ensures { result ≡ shape_end shape s.now at }
 {
     match shape {
-        Shape::Fixed(size) => at + (size as usize),
+        Shape::Fixed(size) => at + usize::from(size),
         Shape::Counted { head, count, item } => {
-            let n = u16_at(s, at + (count as usize));
-            at + (head as usize) + (item as usize) * (n as usize)
+            let n = usize::from(u16_at(s, at + usize::from(count)));
+            at + usize::from(head) + usize::from(item) * n
         }
     }
 }

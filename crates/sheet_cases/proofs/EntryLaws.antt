@@ -1,25 +1,49 @@
--- Comparing bytes from the last to the first: the rest, below i, gives what all of them give. Assumes nothing.
-use Prim.Native.Nat.{ℕ, suc, ◌+◌, ◌-◌, ◌≤◌, ◌<◌}
-use mathlib.Core.Path.{◌≡◌, sym, ap, ◌∙◌}
+-- Comparing bytes from the first to the last gives what `same_bytes` gives, which goes from the last to the first.
+-- Assumes nothing.
+use Prim.Native.Nat.{ℕ, zero, suc, ◌+◌}
+use mathlib.Core.Path.{◌≡◌, refl, sym, ap, ◌∙◌}
 use mathlib.Core.Bool.{Bool, true, false, ◌&&◌}
 use mathlib.Core.List.{List}
-use borrow.Author.Tests.{eq-eqb, ne_eqb}
+use native.Mathlib.Omega.{arith}
 use lib.Dec.{eqb}
+use Rattle.std.specs.List.{list_all, range_with_len}
 use Rattle.le.specs.Fields.{byte_at}
-use Rattle.sheet_claims.proofs.PrefixLaws.{one_less, none_left}
 use Rattle.sheet_cases.specs.Entries.{same_bytes}
 
-module _ (out a : List ℕ) (at i : ℕ) (all : Bool) where
-  split_off : (j : ℕ) → i ≡ suc j → same_bytes out a at i ≡ all → (eqb (byte_at out j) (byte_at a (at + j)) && same_bytes out a at j) ≡ all
-  unfolding same_bytes
-  split_off j h e = ap (same_bytes out a at) (sym h) ∙ e
+swap : (x y z : Bool) → (x && (y && z)) ≡ (y && (x && z))
+swap true y z = refl
+swap false true z = refl
+swap false false z = refl
 
-  pub same_next : 0 < i → byte_at out (i - 1) ≡ byte_at a (at + (i - 1)) → same_bytes out a at i ≡ all → same_bytes out a at (i - 1) ≡ all
-  same_next h f e = ap (λ (b : Bool). b && same_bytes out a at (i - 1)) (sym (eq-eqb _ _ f)) ∙ split_off (i - 1) (one_less i h) e
+plus_none : (a : ℕ) → a ≡ a + 0
+plus_none a = omega arith
 
-  pub same_differ : 0 < i → (byte_at out (i - 1) ≡ byte_at a (at + (i - 1)) → ⊥) → same_bytes out a at i ≡ all → false ≡ all
-  same_differ h f e = ap (λ (b : Bool). b && same_bytes out a at (i - 1)) (sym (ne_eqb _ _ f)) ∙ split_off (i - 1) (one_less i h) e
+shift : (a n : ℕ) → a + 1 + n ≡ a + suc n
+shift a n = omega arith
 
-  pub same_none : i ≤ 0 → same_bytes out a at i ≡ all → true ≡ all
-  unfolding same_bytes
-  same_none h e = ap (same_bytes out a at) (sym (none_left i h)) ∙ e
+none_plus : (n : ℕ) → 0 + n ≡ n
+none_plus n = omega arith
+
+all_last : (p : ℕ → Bool) (a n : ℕ) → list_all p (range_with_len a (suc n)) ≡ (p (a + n) && list_all p (range_with_len a n))
+all_last p a zero = ap (λ (i : ℕ). p i && true) (plus_none a)
+all_last p a (suc n) =
+    ap (λ (b : Bool). p a && b) (all_last p (a + 1) n)
+    ∙ swap (p a) (p (a + 1 + n)) (list_all p (range_with_len (a + 1) n))
+    ∙ ap (λ (i : ℕ). p i && list_all p (range_with_len a (suc n))) (shift a n)
+
+-- whether a byte of one list is the other's
+abbrev pub same_byte : List ℕ → List ℕ → ℕ → Bool
+same_byte out expected i = eqb (byte_at out i) (byte_at expected i)
+
+pub same_all : (out expected : List ℕ) (n : ℕ) → list_all (same_byte out expected) (range_with_len 0 n) ≡ same_bytes out expected n
+unfolding same_bytes
+same_all out expected zero = refl
+same_all out expected (suc n) =
+    all_last (same_byte out expected) 0 n
+    ∙ ap (λ (i : ℕ). same_byte out expected i && list_all (same_byte out expected) (range_with_len 0 n)) (none_plus n)
+    ∙ ap (λ (b : Bool). same_byte out expected n && b) (same_all out expected n)
+
+-- the last of the bytes, and those before it
+pub split_off : (out expected : List ℕ) (i : ℕ) (all : Bool) (j : ℕ) → i ≡ suc j → same_bytes out expected i ≡ all → (eqb (byte_at out j) (byte_at expected j) && same_bytes out expected j) ≡ all
+unfolding same_bytes
+split_off out expected i all j h e = ap (same_bytes out expected) (sym h) ∙ e

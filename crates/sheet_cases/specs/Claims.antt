@@ -1,5 +1,5 @@
 -- What a command of the list claims: of a sheet alone, or of an answer of `estimates`. Definitions only.
-use Rattle.std.specs.Prelude.{ℕ, ◌+◌, Bool, cond, ◌&&◌, List, Option, Some, None, leb, length, take}
+use Rattle.std.specs.Prelude.{ℕ, ◌+◌, Bool, cond, ◌&&◌, List, Option, Some, None, leb, length, take, drop}
 use Rattle.le.specs.Fields.{u16_at, u32_at}
 use Rattle.sheet_claims.specs.Kinds.{kind_of}
 use Rattle.sheet_claims.specs.declared.commands.Kind.{Kind}
@@ -16,20 +16,20 @@ unfoldable pub answer_fits : List ℕ → List ℕ → List ℕ → Bool
 answer_fits s a c = leb (u32_at c length_offset) (length s) && leb (u32_at c place_offset + u32_at c size_offset) (length a)
 
 -- of an accepted sheet, whose places are the answer, of a predicate and of a split; any other is of a join
-abbrev pub answer_holds : Line → List ℕ → ℕ → List ℕ → ℕ → ℕ → Bool
-answer_holds Accepted s e a at size = is_accepted s a at size
-answer_holds Predicates s e a at size = is_predicate s e a at size
-answer_holds Splits s e a at size = is_split s e a at size
-answer_holds Unknown s e a at size = is_join s a at size
-answer_holds (Refused n) s e a at size = is_join s a at size
-answer_holds Prefixes s e a at size = is_join s a at size
-answer_holds Stores s e a at size = is_join s a at size
-answer_holds Joins s e a at size = is_join s a at size
+abbrev pub answer_holds : Line → List ℕ → ℕ → List ℕ → Bool
+answer_holds Accepted s e expected = is_accepted s expected
+answer_holds Predicates s e expected = is_predicate s e expected
+answer_holds Splits s e expected = is_split s e expected
+answer_holds Unknown s e expected = is_join s expected
+answer_holds (Refused refusal) s e expected = is_join s expected
+answer_holds Prefixes s e expected = is_join s expected
+answer_holds Stores s e expected = is_join s expected
+answer_holds Joins s e expected = is_join s expected
 
 unfoldable pub judge_answer : Line → List ℕ → List ℕ → List ℕ → Verdict
 judge_answer line s a c =
     cond (answer_fits s a c)
-    (one_case line (answer_holds line (take (u32_at c length_offset) s) (u16_at c expression_offset) a (u32_at c place_offset) (u32_at c size_offset)))
+    (one_case line (answer_holds line (take (u32_at c length_offset) s) (u16_at c expression_offset) (take (u32_at c size_offset) (drop (u32_at c place_offset) a))))
     unknown
 
 abbrev pub judge_kind : Option Kind → List ℕ → List ℕ → List ℕ → Verdict

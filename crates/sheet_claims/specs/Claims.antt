@@ -1,7 +1,10 @@
 -- What a command of the list claims of a sheet, in terms of `check` of the crate `sheet`. Definitions only.
-use Rattle.std.specs.Prelude.{ℕ, zero, suc, ◌+◌, ◌*◌, Bool, true, false, not, cond, ◌&&◌, List, [], ◌∷◌, eqb, leb, length, take}
+use Rattle.std.specs.Prelude.{ℕ, zero, suc, ◌+◌, ◌*◌, Bool, true, false, not, cond, ◌&&◌, List, [], ◌∷◌, eqb, leb, length, take, Option, Some, None}
 use Rattle.float.specs.Integers.{bit}
 use Rattle.le.specs.Fields.{byte_at, u16_at, u32_at}
+use Rattle.rules.specs.Rules.{refusal_number}
+use Rattle.rules.specs.declared.Refusal.{Refusal}
+use Rattle.rules.specs.declared.Refusal.TheVariants.{Length, Truncated, Count, Figure, Scalar, Code, Order, Reference, OperandRun, Trailing}
 use Rattle.sheet.specs.Check.{Checked, Refused as SheetRefused, Accepted, check}
 use Rattle.sheet.specs.declared.Sections.{Sections}
 use Rattle.layout.specs.Places.{number_size}
@@ -31,14 +34,14 @@ unfoldable pub same_places : List ℕ → List ℕ → ℕ → Bool
 same_places [] a at = true
 same_places (p ∷ ps) a at = cond (eqb p (u16_at a at)) (same_places ps a (at + number_size)) false
 
--- the `size` bytes of a from `at` on are the sections' places, and nothing else
-abbrev pub accepted_as : Checked → List ℕ → ℕ → ℕ → Bool
-accepted_as (SheetRefused n) a at size = false
-accepted_as (Accepted q) a at size = eqb size (number_size * length (places_of q)) && same_places (places_of q) a at
+-- the bytes are the sections' places, and nothing else
+abbrev pub accepted_as : Checked → List ℕ → Bool
+accepted_as (SheetRefused n) expected = false
+accepted_as (Accepted q) expected = eqb (length expected) (number_size * length (places_of q)) && same_places (places_of q) expected 0
 
-unfoldable pub is_accepted : List ℕ → List ℕ → ℕ → ℕ → Bool
+unfoldable pub is_accepted : List ℕ → List ℕ → Bool
 unfolding places_of
-is_accepted s a at size = accepted_as (check s) a at size
+is_accepted s expected = accepted_as (check s) expected
 
 -- how many of the prefixes of 0 .. n - 1 bytes are not refused with the number
 unfoldable pub differing_below : List ℕ → ℕ → ℕ → ℕ
@@ -56,10 +59,28 @@ one_case line agrees = record { line = line; cases = 1; differ = bit (not agrees
 unfoldable pub judge_store : List ℕ → List ℕ → Verdict
 judge_store s c = cond (store_fits s c) (one_case Stores true) unknown
 
+-- the refusals of a sheet by their numbers: the last two are of a call
+abbrev pub refusal_of : ℕ → Option Refusal
+refusal_of number =
+    cond (eqb number 1) (Some Length)
+    (cond (eqb number 2) (Some Truncated)
+    (cond (eqb number 3) (Some Count)
+    (cond (eqb number 4) (Some Figure)
+    (cond (eqb number 5) (Some Scalar)
+    (cond (eqb number 6) (Some Code)
+    (cond (eqb number 7) (Some Order)
+    (cond (eqb number 8) (Some Reference)
+    (cond (eqb number 9) (Some OperandRun)
+    (cond (eqb number 10) (Some Trailing) None)))))))))
+
+abbrev pub judge_refusal : List ℕ → Option Refusal → Verdict
+judge_refusal s (Some refusal) = one_case (Refused refusal) (is_refused s (refusal_number refusal))
+judge_refusal s None = unknown
+
 unfoldable pub judge_refused : List ℕ → List ℕ → Verdict
 judge_refused s c =
-    cond (leb (u32_at c length_offset) (length s) && (leb 1 (byte_at c number_offset) && leb (byte_at c number_offset) 10))
-    (one_case (Refused (byte_at c number_offset)) (is_refused (take (u32_at c length_offset) s) (byte_at c number_offset)))
+    cond (leb (u32_at c length_offset) (length s))
+    (judge_refusal (take (u32_at c length_offset) s) (refusal_of (byte_at c number_offset)))
     unknown
 
 -- the sheet's prefixes are prefixes of s

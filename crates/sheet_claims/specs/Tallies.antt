@@ -1,5 +1,6 @@
 -- Counting on a line of the report. Definitions only.
 use Rattle.std.specs.Prelude.{ℕ, ◌+◌, ◌-◌, ◌^◌, min, List, get_or, set}
+use Rattle.rules.specs.Rules.{refusal_number}
 use Rattle.sheet_claims.specs.declared.Line.{Line}
 use Rattle.sheet_claims.specs.declared.Line.TheVariants.{Unknown, Refused, Accepted, Prefixes, Stores, Joins, Predicates, Splits}
 use Rattle.sheet_claims.specs.declared.Verdict.{Verdict}
@@ -7,7 +8,7 @@ use Rattle.sheet_claims.specs.declared.tallies.Tally.{Tally}
 
 abbrev pub place : Line → ℕ
 place Unknown = 0
-place (Refused n) = n
+place (Refused refusal) = refusal_number refusal
 place Accepted = 11
 place Prefixes = 12
 place Stores = 13

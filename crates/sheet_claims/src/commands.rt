@@ -1,11 +1,11 @@
 // Where the fields of a command stand, by the names of specs/Commands, and what kinds of commands there
 // are.
 ghost use Rattle.std.specs.Prelude.{◌≡◌};
-ghost use Rattle.sheet_claims.specs.Kinds.{kind_number, kind_of};
+ghost use Rattle.sheet_claims.specs.Kinds.{numbered_kind, kind_of};
 
 use le::reads::byte_at;
 
-#[derive(Clone, Copy)]
+#[derive(Clone, Copy, PartialEq, Eq)]
 pub enum Kind {
     Store,
     Refused,
@@ -17,35 +17,35 @@ pub enum Kind {
     Split,
 }
 
-pub fn kind_number(kind: Kind) -> u8
-    ensures { result ≡ kind_number kind }
-{
-    match kind {
-        Kind::Store => 1,
-        Kind::Refused => 2,
-        Kind::Accepted => 3,
-        Kind::Prefixes => 4,
-        Kind::StoreAnswer => 5,
-        Kind::Join => 6,
-        Kind::Predicate => 7,
-        Kind::Split => 8,
+// A number that stands for no kind.
+#[derive(Clone, Copy)]
+pub struct UnknownKind;
+
+impl TryFrom<u8> for Kind {
+    type Error = UnknownKind;
+
+    ghost try_from_gives = { λ number outcome. outcome ≡ numbered_kind number };
+
+    fn try_from(number: u8) -> Result<Kind, UnknownKind> {
+        match number {
+            1 => Ok(Kind::Store),
+            2 => Ok(Kind::Refused),
+            3 => Ok(Kind::Accepted),
+            4 => Ok(Kind::Prefixes),
+            5 => Ok(Kind::StoreAnswer),
+            6 => Ok(Kind::Join),
+            7 => Ok(Kind::Predicate),
+            8 => Ok(Kind::Split),
+            _ => Err(UnknownKind),
+        }
     }
 }
 
+// The kind of a command.
 pub fn kind_of(c: &[u8]) -> Option<Kind>
     ensures { result ≡ kind_of c.now }
 {
-    match byte_at(c, KIND_OFFSET) {
-        1 => Some(Kind::Store),
-        2 => Some(Kind::Refused),
-        3 => Some(Kind::Accepted),
-        4 => Some(Kind::Prefixes),
-        5 => Some(Kind::StoreAnswer),
-        6 => Some(Kind::Join),
-        7 => Some(Kind::Predicate),
-        8 => Some(Kind::Split),
-        _ => None,
-    }
+    Kind::try_from(byte_at(c, KIND_OFFSET)).ok()
 }
 
 pub const COMMAND_SIZE: usize = 32;

@@ -3,8 +3,7 @@ ghost use Rattle.std.specs.Prelude.{◌≡◌, ◌+◌, ◌≤◌, ◌<◌, ◌^
 ghost use Rattle.sheet_claims.specs.Stores.{copied, store_fits, stored};
 
 use crate::commands::{
-    KIND_OFFSET, Kind, STORE_BYTES_OFFSET, STORE_COUNT_OFFSET, STORE_LIMIT, STORE_PLACE_OFFSET,
-    kind_number,
+    Kind, STORE_BYTES_OFFSET, STORE_COUNT_OFFSET, STORE_LIMIT, STORE_PLACE_OFFSET, kind_of,
 };
 use le::reads::{byte_at, u16_at, u32_at};
 
@@ -14,16 +13,17 @@ fn copy(s: &mut [u8], at: usize, c: &[u8], from: usize, n: usize)
     ensures { s.new ≡ copied s.old at c.now from n }
 {
     // byte by byte, since past a command's end its bytes are 0
-    for i in 0..n {
-        s[at + i] = byte_at(c, from + i);
+    for (i, byte) in s[at..at + n].iter_mut().enumerate() {
+        *byte = byte_at(c, from + i);
     }
 }
 
 // Whether what the command stores stands in it whole and lies within the buffer.
+#[tactic(auto, unfolding(crate::specs::Stores::store_fits))]
 pub fn store_fits(s: &[u8], c: &[u8]) -> bool
     ensures { result ≡ store_fits s.now c.now }
 {
-    let n = u16_at(c, STORE_COUNT_OFFSET) as usize;
+    let n = usize::from(u16_at(c, STORE_COUNT_OFFSET));
     let at = u32_at(c, STORE_PLACE_OFFSET) as usize;
     n <= STORE_LIMIT && at + n <= s.len()
 }
@@ -32,9 +32,9 @@ pub fn store_fits(s: &[u8], c: &[u8]) -> bool
 pub fn store(kind: Kind, s: &mut [u8], c: &[u8])
     ensures { s.new ≡ stored kind s.old c.now }
 {
-    if byte_at(c, KIND_OFFSET) == kind_number(kind) && store_fits(s, c) {
+    if kind_of(c) == Some(kind) && store_fits(s, c) {
         let at = u32_at(c, STORE_PLACE_OFFSET) as usize;
-        let n = u16_at(c, STORE_COUNT_OFFSET) as usize;
+        let n = usize::from(u16_at(c, STORE_COUNT_OFFSET));
         copy(s, at, c, STORE_BYTES_OFFSET, n);
     }
 }

@@ -28,10 +28,3 @@ pub fn unsigned_i64(x: i64) -> u64
 {
     x.cast_unsigned()
 }
-
-// The same number, wider.
-pub fn i32_to_i64(x: i32) -> i64
-    ensures { result ≡ x }
-{
-    i64::from(x)
-}

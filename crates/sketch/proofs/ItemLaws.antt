@@ -1,5 +1,6 @@
 -- The items of a sketch from one of them on: what these give is what all of them give. Assumes nothing.
-use Rattle.std.proofs.Common.{◌≡◌, ℕ, ◌+◌, ◌-◌, ◌*◌, ◌<◌, ◌≤◌, true, false, cond, List, length, Option, Some, None, sym, refl, ap, ◌∙◌, arith}
+use Rattle.std.proofs.Common.{◌≡◌, ℕ, zero, suc, ◌+◌, ◌-◌, ◌*◌, ◌<◌, ◌≤◌, true, false, cond, List, length, Option, Some, None, sym, refl, ap, ◌∙◌, arith}
+use Rattle.std.specs.List.{fold, range_with_len}
 use native.Mathlib.Nat.{sub-zero}
 use Rattle.le.specs.Fields.{u16_at, u64_at}
 use Rattle.scalar.specs.Order.{scalar_order, is_equal}
@@ -44,19 +45,20 @@ module _ (s : List ℕ) (at : ℕ) (value : Scalar) (i n : ℕ) (found : Option 
 
 -- ---- the rows left
 
-pub rows_all : (s : List ℕ) (at n : ℕ) → n ≡ length (sketch_at s at).items → (sketch_at s at).population - tracked_rows (items_from s at 0 n) ≡ residual_rows (sketch_at s at)
+rows_all : (s : List ℕ) (at n : ℕ) → n ≡ length (sketch_at s at).items → (sketch_at s at).population - tracked_rows (items_from s at 0 n) ≡ residual_rows (sketch_at s at)
 unfolding residual_rows
 rows_all s at n e = rw (items_all s at n e) (omega arith)
 
-module _ (s : List ℕ) (at i n left all : ℕ) (rest : left - tracked_rows (items_from s at i n) ≡ all) where
-  pub rows_next : i < n → left - u64_at s (at + 10 + 35 * i + 19) - tracked_rows (items_from s at (i + 1) n) ≡ all
-  unfolding tracked_rows sketch_item_at
-  rows_next h =
-      let step : tracked_rows (items_from s at i n) ≡ u64_at s (at + 10 + 35 * i + 19) + tracked_rows (items_from s at (i + 1) n) = ap tracked_rows (tabulate_step (sketch_item s at) i n h) in
-      omega arith
+-- item by item they are taken away
+pub rows_taken : (s : List ℕ) (at i n left : ℕ) → fold (λ rows k. rows - u64_at s (at + 10 + 35 * k + 19)) left (range_with_len i n) ≡ left - tracked_rows (tabulate_from (sketch_item s at) i n)
+unfolding tracked_rows tabulate_from sketch_item_at
+rows_taken s at i zero left = omega arith
+rows_taken s at i (suc n) left =
+    let rest = rows_taken s at (i + 1) n (left - u64_at s (at + 10 + 35 * i + 19)) in
+    rest ∙ omega arith
 
-  pub rows_end : n ≤ i → left ≡ all
-  unfolding tracked_rows
-  rows_end h =
-      let step : tracked_rows (items_from s at i n) ≡ 0 = ap tracked_rows (tabulate_end (sketch_item s at) i n h) in
-      omega arith
+pub rows_left : (s : List ℕ) (at n : ℕ) → n ≡ length (sketch_at s at).items → fold (λ rows k. rows - u64_at s (at + 10 + 35 * k + 19)) (sketch_at s at).population (range_with_len 0 n) ≡ residual_rows (sketch_at s at)
+rows_left s at n e =
+    rows_taken s at 0 n _
+    ∙ ap (λ m. (sketch_at s at).population - tracked_rows (tabulate_from (sketch_item s at) 0 m)) (sym (sub-zero n))
+    ∙ rows_all s at n e

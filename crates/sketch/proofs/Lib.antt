@@ -3,3 +3,4 @@ pub mod PlaceLaws
 pub mod EqualLaws
 pub mod ValueLaws
 pub mod LookupLaws
+pub mod NumberLaws

@@ -1,5 +1,5 @@
 -- Where the sketches of a section stand. Assumes nothing.
-use Rattle.std.proofs.Common.{◌≡◌, ℕ, ◌+◌, ◌*◌, ◌<◌, ◌≤◌, List, Some, sym, refl, ap, ◌∙◌, subst, None}
+use Rattle.std.proofs.Common.{◌≡◌, ℕ, ◌+◌, ◌*◌, ◌<◌, ◌≤◌, Bool, true, false, cond, ltb, ltb-true, ltb-false, List, Option, Some, None, sym, refl, ap, ◌∙◌, subst}
 use lib.ListN.{get_or-eq_default}
 use lib.Ieee.{Float, of_int, le}
 use Rattle.le.specs.Fields.{u16_at}
@@ -10,6 +10,7 @@ use Rattle.sheet.specs.Sheet.{records_in}
 use Rattle.sheet.specs.declared.order.Kind.TheVariants.{Sketches}
 use Rattle.sheet.proofs.PlaceLaws.{record_next}
 use Rattle.sheet.proofs.SheetLaws.{records_length, record_at_law}
+use Rattle.sketch.specs.Places.{numbered_place}
 use Rattle.sketch.specs.Frequent.{no_sketch, sketch_of, sketch_selectivity, numbered_selectivity}
 
 pub place_next : (s : List ℕ) (start i at : ℕ) → at ≡ record_at Sketches s start i → at + 10 + 35 * u16_at s (at + 8) ≡ record_at Sketches s start (i + 1)
@@ -25,12 +26,29 @@ sketch_past s start k h = get_or-eq_default (records_in Sketches sketch_at s sta
 
 -- ---- by its number
 
-module _ (s : List ℕ) (start k : ℕ) (distinct : Float) (literal : Scalar) where
-  pub numbered_there : (n at : ℕ) → n ≡ u16_at s start → k < n → at ≡ record_at Sketches s start k
-      → sketch_selectivity (sketch_at s at) distinct literal ≡ numbered_selectivity (Some k) (records_in Sketches sketch_at s start) distinct literal
-  numbered_there n at c h e = rw (e, sketch_there s start k (subst (λ (m : ℕ). k < m) c h)) refl
+module _ (s : List ℕ) (start k : ℕ) where
+  pub numbered_there : (at : ℕ) → Some at ≡ numbered_place s start (Some k) → sketch_at s at ≡ sketch_of (records_in Sketches sketch_at s start) k
+  numbered_there at e = go (ltb k (u16_at s start)) refl e
+    where
+      go : (t : Bool) → ltb k (u16_at s start) ≡ t → ◌≡◌ {A = Option ℕ} (Some at) (cond t (Some (record_at Sketches s start k)) None) → sketch_at s at ≡ sketch_of (records_in Sketches sketch_at s start) k
+      go true h e = let stands : at ≡ record_at Sketches s start k = cc in rw stands (sym (sketch_there s start k (ltb-true k (u16_at s start) h)))
+      go false h e = cc
 
   -- the section does not hold it
-  pub numbered_past : (n : ℕ) → n ≡ u16_at s start → n ≤ k → None ≡ numbered_selectivity (Some k) (records_in Sketches sketch_at s start) distinct literal
+  pub numbered_past : None ≡ numbered_place s start (Some k) → sketch_of (records_in Sketches sketch_at s start) k ≡ no_sketch
+  numbered_past e = go (ltb k (u16_at s start)) refl e
+    where
+      go : (t : Bool) → ltb k (u16_at s start) ≡ t → ◌≡◌ {A = Option ℕ} None (cond t (Some (record_at Sketches s start k)) None) → sketch_of (records_in Sketches sketch_at s start) k ≡ no_sketch
+      go true h e = cc
+      go false h e = sketch_past s start k (ltb-false k (u16_at s start) h)
+
+module _ (s : List ℕ) (start : ℕ) (distinct : Float) (literal : Scalar) where
+  pub selected_there : (number : Option ℕ) (at : ℕ) → Some at ≡ numbered_place s start number
+      → sketch_selectivity (sketch_at s at) distinct literal ≡ numbered_selectivity number (records_in Sketches sketch_at s start) distinct literal
+  selected_there None at e = cc
+  selected_there (Some k) at e = rw (numbered_there s start k at e) refl
+
+  pub selected_lacking : (number : Option ℕ) → None ≡ numbered_place s start number → None ≡ numbered_selectivity number (records_in Sketches sketch_at s start) distinct literal
   unfolding sketch_selectivity of_int le
-  numbered_past n c h = rw (sketch_past s start k (subst (λ (m : ℕ). m ≤ k) c h)) refl
+  selected_lacking None e = refl
+  selected_lacking (Some k) e = rw (numbered_past s start k e) refl

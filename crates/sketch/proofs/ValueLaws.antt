@@ -1,10 +1,12 @@
 -- A scalar's bytes compared with a value where they stand: the tag, and behind it the numbers. Assumes nothing.
-use Rattle.std.proofs.Common.{◌≡◌, ℕ, suc, ◌+◌, ◌*◌, Bool, true, false, cond, ◌&&◌, ◌||◌, eqb, ◌⊎◌, List, ℤ, pos, sym, refl, ap, ◌∙◌, inl, inr, ⊎_elim, arith, SFits, to_z, of_z, le-ltb, eq-eqb, eqb-true}
+use Rattle.std.proofs.Common.{◌≡◌, ℕ, suc, ◌+◌, ◌^◌, ◌<◌, Bool, true, false, cond, ◌&&◌, eqb, ◌⊎◌, List, ℤ, pos, sym, refl, ap, ◌∙◌, inl, inr, ⊎_elim, arith, SFits, to_z, of_z, eq-eqb, eqb-true}
 use Rattle.std.proofs.lemmas.Bool.{eqb-false}
 use mathlib.Core.Bool.{beq, false≢true}
 use lib.Ieee.{Float, eq}
 use mir.Syntax.{Width}
+use mir.Val.{hbits}
 use mir.ValLaws.{to_z-of_z}
+use lib.Signed.{mag}
 use Rattle.float.specs.Integers.{bit}
 use Rattle.le.specs.Fields.{byte_at}
 use Rattle.le.specs.Integers.{i32_at, i64_at}
@@ -36,6 +38,10 @@ integer_test w a b f g = go (eqb (of_z w a) (of_z w b)) refl (is_equal (integer_
     go true e false h = absurd (false≢true (sym h ∙ ap (λ (x : ℤ). is_equal (integer_order a x)) (sym (same e)) ∙ ap is_equal (integer_own a)))
     go false e true h = absurd (false≢true (sym e ∙ eq-eqb (of_z w a) (of_z w b) (ap (of_z w) (integer_same a b h))))
     go false e false h = refl
+
+-- one that is read, with one that is given
+pub read_test : (w : Width) (a b : ℤ) → mag a < 2 ^ hbits w → SFits w b → eqb (of_z w a) (of_z w b) ≡ is_equal (integer_order a b)
+read_test w a b f g = integer_test w a b (record { sfits = f }) g
 
 -- ---- floats: the machine's test
 
@@ -153,4 +159,4 @@ module _ (s : List ℕ) (at : ℕ) where
   day_time_value d t =
       tagged s at 8 (IntervalDayTime d t) _ refl (λ e. rw e (ap is_equal (day_time_order_law (i32_at s (at + 1)) (i32_at s (at + 5)) d t) ∙ both_orders (integer_order (i32_at s (at + 1)) d) (integer_order (i32_at s (at + 5)) t)))
 
-pub ruleset values = (null_value, boolean_value, int32_value, int64_value, float64_value, decimal128_value, date32_value, month_day_nano_value, day_time_value)
+pub ruleset values = (null_value, boolean_value, int32_value, int64_value, float64_value, decimal128_value, date32_value, month_day_nano_value, day_time_value, to_z-of_z)

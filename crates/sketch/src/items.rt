@@ -6,6 +6,7 @@ ghost use Rattle.scalar_bytes.specs.Reading.{scalar_at};
 ghost use Rattle.records.specs.Sketches.{sketch_item_at, sketch_at};
 ghost use Rattle.sketch.specs.Frequent.{counts_of, find_item, residual_rows};
 
+use crate::places::SketchPlace;
 use crate::values::{has_value, has_value_there};
 use layout::{
     ITEM_ERROR_OFFSET, ITEM_LOWER_OFFSET, ITEM_SIZE, SKETCH_COUNT_OFFSET, SKETCH_HEAD_SIZE,
@@ -64,13 +65,21 @@ fn item_has<const THERE: bool>(s: &[u8], item: usize, value: Scalar) -> bool
     has_value(s, item, value)
 }
 
-// The lookup among n items, which THERE says are all there.
-fn find_among<const THERE: bool>(s: &[u8], at: usize, n: usize, value: Scalar) -> Option<Counts>
-    requires { (at < 2 ^ 40) × (n ≡ length (sketch_at s.now at).items) × (n < 2 ^ 16) × (IsTrue THERE → at + sketch_head_size + item_size * n ≤ length s.now) }
-    ensures { result ≡ find_item value (sketch_at s.now at).items }
+// The lookup among a sketch's n items, which THERE says are all there. No slice of n items stands for the
+// two: where they are not all there it would be shorter, and the rest reads as zeros. A loop, and no `find`:
+// a closure that reads THERE needs clauses of its own, which are longer than the loop.
+#[tactic(auto, using(crate::proofs::ItemLaws::items_all, crate::proofs::ItemLaws::find_next, crate::proofs::ItemLaws::find_here, crate::proofs::ItemLaws::find_none))]
+fn find_among<const THERE: bool>(
+    s: &[u8],
+    sketch: SketchPlace,
+    n: u16,
+    value: Scalar,
+) -> Option<Counts>
+    requires { (n ≡ length (sketch_at s.now sketch.at).items) × (IsTrue THERE → sketch.at + sketch_head_size + item_size * n ≤ length s.now) }
+    ensures { result ≡ find_item value (sketch_at s.now sketch.at).items }
 {
-    for i in 0..n {
-        let item = at + SKETCH_HEAD_SIZE + ITEM_SIZE * i;
+    for i in 0..usize::from(n) {
+        let item = sketch.at + SKETCH_HEAD_SIZE + ITEM_SIZE * i;
         if item_has::<THERE>(s, item, value) {
             return Some(counts_at::<THERE>(s, item));
         }
@@ -78,30 +87,24 @@ fn find_among<const THERE: bool>(s: &[u8], at: usize, n: usize, value: Scalar) -
     None
 }
 
-pub fn find_item(s: &[u8], at: usize, value: Scalar) -> Option<Counts>
-    requires { at < 2 ^ 40 }
-    ensures { result ≡ find_item value (sketch_at s.now at).items }
+pub fn find_item(s: &[u8], sketch: SketchPlace, value: Scalar) -> Option<Counts>
+    ensures { result ≡ find_item value (sketch_at s.now sketch.at).items }
 {
-    let n = item_count(s, at) as usize;
-    if at + SKETCH_HEAD_SIZE + ITEM_SIZE * n <= s.len() {
-        return find_among::<true>(s, at, n, value);
+    let n = item_count(s, sketch.at);
+    if sketch.at + SKETCH_HEAD_SIZE + ITEM_SIZE * usize::from(n) <= s.len() {
+        return find_among::<true>(s, sketch, n, value);
     }
-    find_among::<false>(s, at, n, value)
+    find_among::<false>(s, sketch, n, value)
 }
 
 // The rows that no item counts. Item by item they are taken from the population, so no sum is made
 // that could pass 64 bits.
-pub fn residual_rows(s: &[u8], at: usize) -> u64
-    requires { at < 2 ^ 40 }
-    ensures { result ≡ residual_rows (sketch_at s.now at) }
+pub fn residual_rows(s: &[u8], sketch: SketchPlace) -> u64
+    ensures { result ≡ residual_rows (sketch_at s.now sketch.at) }
 {
-    let n = item_count(s, at) as usize;
-    let mut rows = population(s, at);
-    for i in 0..n {
-        rows = rows.saturating_sub(u64_at(
-            s,
-            at + SKETCH_HEAD_SIZE + ITEM_SIZE * i + ITEM_LOWER_OFFSET,
-        ));
-    }
-    rows
+    let n = usize::from(item_count(s, sketch.at));
+    (0..n).fold(population(s, sketch.at), |rows, i| {
+        let item = sketch.at + SKETCH_HEAD_SIZE + ITEM_SIZE * i;
+        rows.saturating_sub(u64_at(s, item + ITEM_LOWER_OFFSET))
+    })
 }

@@ -12,8 +12,7 @@ use float::order::{clamp_unit, f64_max};
 use items::{Counts, find_item, item_count, population, residual_rows};
 use layout::{COLUMN_DISTINCT_OFFSET, COLUMN_SKETCH_OFFSET, ESTIMATE_VALUE_OFFSET};
 use le::floats::f64_at;
-use le::reads::u16_at;
-use places::sketch_place;
+use places::{SketchPlace, numbered_place};
 use records::columns::sketch_number_at;
 use scalar::{Scalar, is_null};
 use std::num::nearest_u64_to_f64;
@@ -23,6 +22,7 @@ pub mod places;
 mod there;
 mod values;
 
+#[tactic(auto, using(crate::proofs::NumberLaws::half_bits), unfolding(crate::specs::Frequent::item_selectivity))]
 fn item_selectivity(population: u64, counts: Counts) -> f64
     ensures { result ≡ item_selectivity population counts }
 {
@@ -31,39 +31,37 @@ fn item_selectivity(population: u64, counts: Counts) -> f64
 }
 
 #[tactic(auto, unfolding(crate::specs::Frequent::residual_selectivity))]
-fn residual_selectivity(s: &[u8], at: usize, distinct: f64) -> f64
-    requires { at < 2 ^ 40 }
-    ensures { result ≡ residual_selectivity (sketch_at s.now at) distinct }
+fn residual_selectivity(s: &[u8], sketch: SketchPlace, distinct: f64) -> f64
+    ensures { result ≡ residual_selectivity (sketch_at s.now sketch.at) distinct }
 {
-    let rows = nearest_u64_to_f64(residual_rows(s, at));
-    let residual_distinct = f64_max(distinct - nearest_u64_to_f64(item_count(s, at) as u64), 1.0);
-    clamp_unit(rows / residual_distinct / nearest_u64_to_f64(population(s, at)))
+    let rows = nearest_u64_to_f64(residual_rows(s, sketch));
+    let items = nearest_u64_to_f64(u64::from(item_count(s, sketch.at)));
+    let residual_distinct = f64_max(distinct - items, 1.0);
+    clamp_unit(rows / residual_distinct / nearest_u64_to_f64(population(s, sketch.at)))
 }
 
-fn found_selectivity(found: Option<Counts>, s: &[u8], at: usize, distinct: f64) -> f64
-    requires { at < 2 ^ 40 }
-    ensures { result ≡ found_selectivity found (sketch_at s.now at) distinct }
+fn found_selectivity(found: Option<Counts>, s: &[u8], sketch: SketchPlace, distinct: f64) -> f64
+    ensures { result ≡ found_selectivity found (sketch_at s.now sketch.at) distinct }
 {
     match found {
-        None => residual_selectivity(s, at, distinct),
-        Some(counts) => item_selectivity(population(s, at), counts),
+        None => residual_selectivity(s, sketch, distinct),
+        Some(counts) => item_selectivity(population(s, sketch.at), counts),
     }
 }
 
-// The sketch at a place.
 #[tactic(auto, unfolding(crate::specs::Frequent::sketch_selectivity))]
-fn sketch_selectivity(s: &[u8], at: usize, distinct: f64, value: Scalar) -> Option<f64>
-    requires { at < 2 ^ 40 }
-    ensures { result ≡ sketch_selectivity (sketch_at s.now at) distinct value }
+fn sketch_selectivity(s: &[u8], sketch: SketchPlace, distinct: f64, value: Scalar) -> Option<f64>
+    ensures { result ≡ sketch_selectivity (sketch_at s.now sketch.at) distinct value }
 {
-    if nearest_u64_to_f64(population(s, at)) <= 0.0 {
+    if nearest_u64_to_f64(population(s, sketch.at)) <= 0.0 {
         return None;
     }
-    Some(found_selectivity(find_item(s, at, value), s, at, distinct))
+    let found = find_item(s, sketch, value);
+    Some(found_selectivity(found, s, sketch, distinct))
 }
 
-// The sketch with a number. One that the section does not hold names no sketch.
-#[tactic(auto, using(crate::proofs::PlaceLaws::numbered_there, crate::proofs::PlaceLaws::numbered_past))]
+// The sketch with a number.
+#[tactic(auto, using(crate::proofs::PlaceLaws::selected_there, crate::proofs::PlaceLaws::selected_lacking))]
 fn numbered_selectivity(
     s: &[u8],
     start: u16,
@@ -73,14 +71,12 @@ fn numbered_selectivity(
 ) -> Option<f64>
     ensures { result ≡ numbered_selectivity number (records_in Sketches sketch_at s.now start) distinct literal }
 {
-    let k = number?;
-    if k < u16_at(s, start as usize) {
-        return sketch_selectivity(s, sketch_place(s, start as usize, k), distinct, literal);
-    }
-    None
+    let sketch = numbered_place(s, start, number)?;
+    sketch_selectivity(s, sketch, distinct, literal)
 }
 
-// Of the profile at a place. `start` is the place of the count of a sheet's sketches.
+// Of the profile at a place. `start` is the place of the count of a sheet's sketches. The profile's place is
+// a number and no struct: one with its side's rows would hold rows that are not asked for.
 #[tactic(auto, unfolding(crate::specs::Frequent::frequent_value_selectivity, records::specs::Columns::column_profile_at))]
 pub fn frequent_value_selectivity(
     s: &[u8],

@@ -1,4 +1,6 @@
-// Fields of bytes that are there, read with no test.
+// Fields of bytes that are there, read with no test, each beside a reader of `le` that tests: among a sketch's
+// items one test stands in front of the loop. So an item takes 7 instructions, of an Int64, and 13 by the
+// readers of `le`.
 ghost use Rattle.std.specs.Prelude.{◌≡◌, ◌+◌, ◌<◌, ◌≤◌, length};
 ghost use Rattle.layout.specs.Places.{float_size, int32_size, int64_size};
 ghost use Rattle.le.specs.Fields.{byte_at};

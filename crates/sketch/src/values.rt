@@ -18,6 +18,9 @@ use layout::{
 use scalar::Scalar;
 use scalar::order::scalar_order;
 use scalar_bytes::reads::scalar_at;
+use scalar_bytes::tags::{
+    BOOLEAN, DATE32, DAY_TIME, DECIMAL128, FLOAT64, INT32, INT64, MONTH_DAY_NANO,
+};
 use std::cmp::Ordering;
 
 #[tactic(auto, using(crate::proofs::ValueLaws::boolean_test))]
@@ -29,6 +32,7 @@ fn is_bool(s: &[u8], at: usize, x: bool) -> bool
 }
 
 // One for each type: a generic one would go through a trait whose impls are these.
+#[tactic(auto, using(crate::proofs::ValueLaws::read_test))]
 fn is_i32(s: &[u8], at: usize, x: i32) -> bool
     requires { at + int32_size ≤ length s.now }
     ensures { result ≡ is_equal (integer_order (i32_at s.now at) x) }
@@ -36,6 +40,7 @@ fn is_i32(s: &[u8], at: usize, x: i32) -> bool
     i32_there(s, at) == x
 }
 
+#[tactic(auto, using(crate::proofs::ValueLaws::read_test))]
 fn is_i64(s: &[u8], at: usize, x: i64) -> bool
     requires { at + int64_size ≤ length s.now }
     ensures { result ≡ is_equal (integer_order (i64_at s.now at) x) }
@@ -52,7 +57,7 @@ fn is_f64(s: &[u8], at: usize, x: f64) -> bool
 }
 
 fn is_month_day_nano(s: &[u8], at: usize, months: i32, days: i32, nanoseconds: i64) -> bool
-    requires { (at < 2 ^ 61) × (at + month_day_nano_size ≤ length s.now) }
+    requires { at + month_day_nano_size ≤ length s.now }
     ensures { result ≡ ((is_equal (integer_order (i32_at s.now at) months) && is_equal (integer_order (i32_at s.now (at + month_day_nano_days_offset)) days)) && is_equal (integer_order (i64_at s.now (at + month_day_nano_nanoseconds_offset)) nanoseconds)) }
 {
     is_i32(s, at, months)
@@ -61,7 +66,7 @@ fn is_month_day_nano(s: &[u8], at: usize, months: i32, days: i32, nanoseconds: i
 }
 
 fn is_day_time(s: &[u8], at: usize, days: i32, milliseconds: i32) -> bool
-    requires { (at < 2 ^ 61) × (at + day_time_size ≤ length s.now) }
+    requires { at + day_time_size ≤ length s.now }
     ensures { result ≡ (is_equal (integer_order (i32_at s.now at) days) && is_equal (integer_order (i32_at s.now (at + day_time_milliseconds_offset)) milliseconds)) }
 {
     is_i32(s, at, days) && is_i32(s, at + DAY_TIME_MILLISECONDS_OFFSET, milliseconds)
@@ -71,34 +76,37 @@ fn is_day_time(s: &[u8], at: usize, days: i32, milliseconds: i32) -> bool
 // lookup an instruction for each item.
 #[tactic(auto, using(crate::proofs::ValueLaws::values))]
 pub fn has_value_there(s: &[u8], at: usize, value: Scalar) -> bool
-    requires { (at < 2 ^ 60) × (at + scalar_size ≤ length s.now) }
+    requires { at + scalar_size ≤ length s.now }
     ensures { result ≡ is_equal (scalar_order (scalar_at s.now at) value) }
 {
     let first = at + SCALAR_VALUE_OFFSET;
     match value {
         Scalar::Null => false,
-        Scalar::Boolean(x) => byte_there(s, at) == 1 && is_bool(s, first, x),
-        Scalar::Int32(x) => byte_there(s, at) == 2 && is_i32(s, first, x),
-        Scalar::Int64(x) => byte_there(s, at) == 3 && is_i64(s, first, x),
-        Scalar::Float64(x) => byte_there(s, at) == 4 && is_f64(s, first, x),
+        Scalar::Boolean(x) => byte_there(s, at) == BOOLEAN && is_bool(s, first, x),
+        Scalar::Int32(x) => byte_there(s, at) == INT32 && is_i32(s, first, x),
+        Scalar::Int64(x) => byte_there(s, at) == INT64 && is_i64(s, first, x),
+        Scalar::Float64(x) => byte_there(s, at) == FLOAT64 && is_f64(s, first, x),
         Scalar::Decimal128 {
             value: digits,
             precision,
             scale,
         } => {
-            byte_there(s, at) == 5
+            byte_there(s, at) == DECIMAL128
                 && byte_there(s, first) == precision
                 && byte_there(s, first + DECIMAL_SCALE_OFFSET) == scale
                 && is_i64(s, first + DECIMAL_DIGITS_OFFSET, digits)
         }
-        Scalar::Date32(x) => byte_there(s, at) == 6 && is_i32(s, first, x),
+        Scalar::Date32(x) => byte_there(s, at) == DATE32 && is_i32(s, first, x),
         Scalar::IntervalMonthDayNano {
             months,
             days,
             nanoseconds,
-        } => { byte_there(s, at) == 8 && is_month_day_nano(s, first, months, days, nanoseconds) }
+        } => {
+            byte_there(s, at) == MONTH_DAY_NANO
+                && is_month_day_nano(s, first, months, days, nanoseconds)
+        }
         Scalar::IntervalDayTime { days, milliseconds } => {
-            byte_there(s, at) == 9 && is_day_time(s, first, days, milliseconds)
+            byte_there(s, at) == DAY_TIME && is_day_time(s, first, days, milliseconds)
         }
     }
 }

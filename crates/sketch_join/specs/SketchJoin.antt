@@ -3,12 +3,9 @@ use Rattle.std.specs.Prelude.{ℕ, ◌+◌, Bool, cond, ◌&&◌, ◌||◌, List
 use Rattle.std.specs.Float.{binary64}
 use Rattle.std.specs.Float.Ieee.{add, sub, mul, div, lt, le}
 use Rattle.float.specs.Order.{f64_zero, f64_one, f64_max, f64_min, clamp_unit}
-use Rattle.le.specs.Fields.{u16_at}
 use Rattle.records.specs.Sketches.{Sketch}
 use Rattle.records.specs.declared.sketches.SketchItem.{SketchItem}
 use Rattle.records.specs.declared.columns.ColumnProfile.{ColumnProfile}
-use Rattle.sheet.specs.Order.{record_at}
-use Rattle.sheet.specs.declared.order.Kind.TheVariants.{Sketches}
 use Rattle.sketch.specs.Frequent.{sketch_of, find_item, count}
 use Rattle.sketch.specs.declared.items.Counts.{Counts}
 use Rattle.range.specs.Selectivity.{non_null_fraction}
@@ -71,13 +68,6 @@ sketches_join left right left_profile left_rows right_profile right_rows =
     let sums = common_values left.items right.items in
     let residual = residual_join_rows sums (non_null_rows left left_profile left_rows) (non_null_rows right right_profile right_rows) left_profile.distinct.value right_profile.distinct.value in
     cond (either_empty left right) None (Some (pair_selectivity left right sums residual))
-
--- the places of two sketches, where the section at `start` holds both
-abbrev pub both_places : List ℕ → ℕ → Option ℕ → Option ℕ → Option (ℕ × ℕ)
-both_places s start None right = None
-both_places s start (Some i) None = None
-both_places s start (Some i) (Some j) =
-    cond (nat_lt i (u16_at s start) && nat_lt j (u16_at s start)) (Some (record_at Sketches s start i, record_at Sketches s start j)) None
 
 -- of two sketches by their numbers
 abbrev pub numbered : {A : Type 0} → A → (Sketch → Sketch → A) → List Sketch → Option ℕ → Option ℕ → A

@@ -1,5 +1,5 @@
 // The part of the left rows that find a partner.
-ghost use Rattle.std.specs.Prelude.{◌≡◌, ◌^◌, ◌<◌};
+ghost use Rattle.std.specs.Prelude.{◌≡◌};
 ghost use Rattle.records.specs.Sketches.{sketch_at};
 ghost use Rattle.sketch_join.specs.SketchJoin.{residual_matched_left_rows, match_probability, sketches_match};
 
@@ -8,6 +8,7 @@ use crate::sums::{MatchedValues, matched_values};
 use float::order::{clamp_unit, f64_max, f64_min};
 use records::columns::ColumnProfile;
 use sketch::items::population;
+use sketch::places::SketchPlace;
 use std::num::nearest_u64_to_f64;
 
 #[tactic(auto, unfolding(crate::specs::SketchJoin::residual_matched_left_rows))]
@@ -32,37 +33,36 @@ fn residual_matched_left_rows(
 }
 
 #[tactic(auto, unfolding(crate::specs::SketchJoin::match_probability))]
-fn match_probability(s: &[u8], left_at: usize, sums: MatchedValues, residual: f64) -> f64
-    ensures { result ≡ match_probability (sketch_at s.now left_at) sums residual }
+fn match_probability(s: &[u8], first: SketchPlace, sums: MatchedValues, residual: f64) -> f64
+    ensures { result ≡ match_probability (sketch_at s.now first.at) sums residual }
 {
-    let left_population = nearest_u64_to_f64(population(s, left_at));
+    let left_population = nearest_u64_to_f64(population(s, first.at));
     clamp_unit((sums.known_matched_left_rows + residual) / left_population)
 }
 
-// The sketches at two places.
+// The left side's sketch is the first.
 #[tactic(auto, unfolding(crate::specs::SketchJoin::sketches_match))]
 pub fn sketches_match(
     s: &[u8],
-    left_at: usize,
-    right_at: usize,
+    first: SketchPlace,
+    second: SketchPlace,
     left: ColumnProfile,
     left_rows: f64,
     intersection_distinct: f64,
     left_distinct: f64,
 ) -> Option<f64>
-    requires { (left_at < 2 ^ 40) × (right_at < 2 ^ 40) }
-    ensures { result ≡ sketches_match (sketch_at s.now left_at) (sketch_at s.now right_at) left left_rows intersection_distinct left_distinct }
+    ensures { result ≡ sketches_match (sketch_at s.now first.at) (sketch_at s.now second.at) left left_rows intersection_distinct left_distinct }
 {
-    if either_empty(s, left_at, right_at) {
+    if either_empty(s, first.at, second.at) {
         return None;
     }
-    let sums = matched_values(s, left_at, right_at);
-    let left_non_null_rows = non_null_rows(s, left_at, left, left_rows);
+    let sums = matched_values(s, first, second);
+    let left_non_null_rows = non_null_rows(s, first.at, left, left_rows);
     let residual = residual_matched_left_rows(
         sums,
         left_non_null_rows,
         intersection_distinct,
         left_distinct,
     );
-    Some(match_probability(s, left_at, sums, residual))
+    Some(match_probability(s, first, sums, residual))
 }

@@ -1,5 +1,5 @@
 // The selectivity of a pair of rows, one of each side.
-ghost use Rattle.std.specs.Prelude.{◌≡◌, ◌^◌, ◌<◌};
+ghost use Rattle.std.specs.Prelude.{◌≡◌};
 ghost use Rattle.records.specs.Sketches.{sketch_at};
 ghost use Rattle.sketch_join.specs.SketchJoin.{residual_join_rows, pair_selectivity, sketches_join};
 
@@ -8,6 +8,7 @@ use crate::sums::{CommonValues, common_values};
 use float::order::{clamp_unit, f64_max};
 use records::columns::ColumnProfile;
 use sketch::items::population;
+use sketch::places::SketchPlace;
 use std::num::nearest_u64_to_f64;
 
 #[tactic(auto, unfolding(crate::specs::SketchJoin::residual_join_rows))]
@@ -31,38 +32,37 @@ fn residual_join_rows(
 #[tactic(auto, unfolding(crate::specs::SketchJoin::pair_selectivity))]
 fn pair_selectivity(
     s: &[u8],
-    left_at: usize,
-    right_at: usize,
+    first: SketchPlace,
+    second: SketchPlace,
     sums: CommonValues,
     residual: f64,
 ) -> f64
-    ensures { result ≡ pair_selectivity (sketch_at s.now left_at) (sketch_at s.now right_at) sums residual }
+    ensures { result ≡ pair_selectivity (sketch_at s.now first.at) (sketch_at s.now second.at) sums residual }
 {
-    let left_population = nearest_u64_to_f64(population(s, left_at));
-    let right_population = nearest_u64_to_f64(population(s, right_at));
+    let left_population = nearest_u64_to_f64(population(s, first.at));
+    let right_population = nearest_u64_to_f64(population(s, second.at));
     clamp_unit((sums.heavy_join_rows + residual) / (left_population * right_population))
 }
 
-// The sketches at two places.
+// The left side's sketch is the first.
 #[tactic(auto, unfolding(crate::specs::SketchJoin::sketches_join))]
 pub fn sketches_join(
     s: &[u8],
-    left_at: usize,
-    right_at: usize,
+    first: SketchPlace,
+    second: SketchPlace,
     left: ColumnProfile,
     left_rows: f64,
     right: ColumnProfile,
     right_rows: f64,
 ) -> Option<f64>
-    requires { (left_at < 2 ^ 40) × (right_at < 2 ^ 40) }
-    ensures { result ≡ sketches_join (sketch_at s.now left_at) (sketch_at s.now right_at) left left_rows right right_rows }
+    ensures { result ≡ sketches_join (sketch_at s.now first.at) (sketch_at s.now second.at) left left_rows right right_rows }
 {
-    if either_empty(s, left_at, right_at) {
+    if either_empty(s, first.at, second.at) {
         return None;
     }
-    let sums = common_values(s, left_at, right_at);
-    let left_non_null_rows = non_null_rows(s, left_at, left, left_rows);
-    let right_non_null_rows = non_null_rows(s, right_at, right, right_rows);
+    let sums = common_values(s, first, second);
+    let left_non_null_rows = non_null_rows(s, first.at, left, left_rows);
+    let right_non_null_rows = non_null_rows(s, second.at, right, right_rows);
     let residual = residual_join_rows(
         sums,
         left_non_null_rows,
@@ -70,5 +70,5 @@ pub fn sketches_join(
         left.distinct.value,
         right.distinct.value,
     );
-    Some(pair_selectivity(s, left_at, right_at, sums, residual))
+    Some(pair_selectivity(s, first, second, sums, residual))
 }

@@ -15,8 +15,9 @@ pub fn non_null_rows(s: &[u8], at: usize, profile: ColumnProfile, rows: f64) -> 
     nearest_u64_to_f64(population(s, at)) * non_null_fraction(profile.frequency.value, rows)
 }
 
-pub fn either_empty(s: &[u8], left_at: usize, right_at: usize) -> bool
-    ensures { result ≡ either_empty (sketch_at s.now left_at) (sketch_at s.now right_at) }
+// At any two places, so they are plain numbers.
+pub fn either_empty(s: &[u8], first: usize, second: usize) -> bool
+    ensures { result ≡ either_empty (sketch_at s.now first) (sketch_at s.now second) }
 {
-    population(s, left_at) == 0 || population(s, right_at) == 0
+    population(s, first) == 0 || population(s, second) == 0
 }

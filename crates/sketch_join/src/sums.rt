@@ -7,6 +7,7 @@ use layout::{ITEM_LOWER_OFFSET, ITEM_SIZE, SKETCH_HEAD_SIZE};
 use le::reads::u64_at;
 use scalar_bytes::reads::scalar_at;
 use sketch::items::{Counts, find_item, item_count};
+use sketch::places::SketchPlace;
 use std::num::nearest_u64_to_f64;
 
 // For pairs of rows.
@@ -36,24 +37,26 @@ fn with_common(sums: CommonValues, lower: u64, found: Option<Counts>) -> CommonV
             let left_frequency = nearest_u64_to_f64(lower);
             let right_frequency = nearest_u64_to_f64(other.lower);
             if 0.0 < left_frequency && 0.0 < right_frequency {
-                return CommonValues {
+                CommonValues {
                     heavy_join_rows: sums.heavy_join_rows + left_frequency * right_frequency,
                     common_left_rows: sums.common_left_rows + left_frequency,
                     common_right_rows: sums.common_right_rows + right_frequency,
                     common_values: sums.common_values + 1,
-                };
+                }
+            } else {
+                sums
             }
-            sums
         }
     }
 }
 
-// The sums over the items of the sketch at `left_at`.
-pub fn common_values(s: &[u8], left_at: usize, right_at: usize) -> CommonValues
-    requires { (left_at < 2 ^ 40) × (right_at < 2 ^ 40) }
-    ensures { result ≡ common_values (sketch_at s.now left_at).items (sketch_at s.now right_at).items }
+// The sums over the items of the first sketch. A loop, and no `fold`: that the count is small has to go from
+// turn to turn.
+#[tactic(auto, using(range::proofs::BitLaws::zero_bits, crate::proofs::SumLaws::common_grows, crate::proofs::SumLaws::summed_all, crate::proofs::SumLaws::summed_next, crate::proofs::SumLaws::summed_end))]
+pub fn common_values(s: &[u8], first: SketchPlace, second: SketchPlace) -> CommonValues
+    ensures { result ≡ common_values (sketch_at s.now first.at).items (sketch_at s.now second.at).items }
 {
-    let n = item_count(s, left_at) as usize;
+    let n = usize::from(item_count(s, first.at));
     let mut sums = CommonValues {
         heavy_join_rows: 0.0,
         common_left_rows: 0.0,
@@ -61,8 +64,8 @@ pub fn common_values(s: &[u8], left_at: usize, right_at: usize) -> CommonValues
         common_values: 0,
     };
     for i in 0..n {
-        let item = left_at + SKETCH_HEAD_SIZE + ITEM_SIZE * i;
-        let found = find_item(s, right_at, scalar_at(s, item));
+        let item = first.at + SKETCH_HEAD_SIZE + ITEM_SIZE * i;
+        let found = find_item(s, second, scalar_at(s, item));
         sums = with_common(sums, u64_at(s, item + ITEM_LOWER_OFFSET), found);
     }
     sums
@@ -77,30 +80,32 @@ fn with_matched(sums: MatchedValues, lower: u64, found: Option<Counts>) -> Match
         Some(other) => {
             let left_frequency = nearest_u64_to_f64(lower);
             if 0.0 < left_frequency && 0 < other.lower {
-                return MatchedValues {
+                MatchedValues {
                     known_matched_left_rows: sums.known_matched_left_rows + left_frequency,
                     common_values: sums.common_values + 1.0,
-                };
+                }
+            } else {
+                sums
             }
-            sums
         }
     }
 }
 
-// The sums over the items of the sketch at `left_at`. This walk and the other stay two: one that takes
-// the step would have to carry the bound on the other's count through it.
-pub fn matched_values(s: &[u8], left_at: usize, right_at: usize) -> MatchedValues
-    requires { (left_at < 2 ^ 40) × (right_at < 2 ^ 40) }
-    ensures { result ≡ matched_values (sketch_at s.now left_at).items (sketch_at s.now right_at).items }
+// The sums over the items of the first sketch. This walk and the other stay two: one that takes the step
+// would have to carry the bound on the other's count through it. A loop, and no `fold`, which takes some 4
+// instructions an item more.
+#[tactic(auto, using(range::proofs::BitLaws::zero_bits, crate::proofs::SumLaws::summed_all, crate::proofs::SumLaws::summed_next, crate::proofs::SumLaws::summed_end))]
+pub fn matched_values(s: &[u8], first: SketchPlace, second: SketchPlace) -> MatchedValues
+    ensures { result ≡ matched_values (sketch_at s.now first.at).items (sketch_at s.now second.at).items }
 {
-    let n = item_count(s, left_at) as usize;
+    let n = usize::from(item_count(s, first.at));
     let mut sums = MatchedValues {
         known_matched_left_rows: 0.0,
         common_values: 0.0,
     };
     for i in 0..n {
-        let item = left_at + SKETCH_HEAD_SIZE + ITEM_SIZE * i;
-        let found = find_item(s, right_at, scalar_at(s, item));
+        let item = first.at + SKETCH_HEAD_SIZE + ITEM_SIZE * i;
+        let found = find_item(s, second, scalar_at(s, item));
         sums = with_matched(sums, u64_at(s, item + ITEM_LOWER_OFFSET), found);
     }
     sums

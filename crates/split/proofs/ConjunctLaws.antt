@@ -17,7 +17,7 @@ use Rattle.lookup.proofs.RecursionLaws.{below_is, below_not}
 use Rattle.le.specs.Fields.{onto}
 use Rattle.number_bytes.proofs.FilledLaws.{Filled, filled_first, filled_within, filled_room, filled_part, filled_next, filled_length, filled_all}
 use Rattle.split.specs.Conjuncts.{and_run, flattened, run_conjuncts, conjuncts_by, itself, conjuncts}
-use Rattle.split.specs.declared.run.Run.{Run}
+use Rattle.lookup.specs.declared.numbers.Run.{Run}
 use Rattle.std.specs.Prelude.{Option, None, Some}
 
 -- ---- one expression

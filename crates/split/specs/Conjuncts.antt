@@ -6,7 +6,7 @@ use Rattle.records.specs.declared.expressions.Expression.TheVariants.{Nary}
 use Rattle.sheet.specs.Sheet.{Sheet}
 use Rattle.lookup.specs.Lookup.{expression_of, operands_of}
 use Rattle.lookup.specs.Recursion.{by_number}
-use Rattle.split.specs.declared.run.Run.{Run}
+use Rattle.lookup.specs.declared.numbers.Run.{Run}
 
 -- the operands of an And
 abbrev pub and_run : Expression → Option Run

@@ -2,13 +2,8 @@
 ghost use Rattle.std.specs.Prelude.{◌≡◌};
 ghost use Rattle.split.specs.Conjuncts.{and_run};
 
+use lookup::numbers::Run;
 use records::expressions::{Expression, NaryOp};
-
-#[derive(Clone, Copy)]
-pub struct Run {
-    pub first: u16,
-    pub count: u16,
-}
 
 pub fn and_run(x: Expression) -> Option<Run>
     ensures { result ≡ and_run x }

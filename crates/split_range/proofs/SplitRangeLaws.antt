@@ -26,7 +26,7 @@ use Rattle.lookup.specs.Lookup.{expression_of, operand_in}
 use Rattle.lookup.specs.Recursion.{below}
 use Rattle.lookup.proofs.LookupLaws.{expressions_length, expression_found, expression_missing, operands_length, operands_from}
 use Rattle.split.specs.Conjuncts.{and_run, flattened, conjuncts_by, itself, conjuncts}
-use Rattle.split.specs.declared.run.Run.{Run}
+use Rattle.lookup.specs.declared.numbers.Run.{Run}
 use Rattle.std.specs.Prelude.{Option, None, Some}
 use Rattle.split.proofs.ConjunctLaws.{alone, apart, operand_below}
 use Rattle.split_range.proofs.SumLaws.{sum, sum_rises, slots_most}

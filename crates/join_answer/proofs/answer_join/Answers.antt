@@ -12,24 +12,24 @@ use Rattle.answers.proofs.AnswerLaws.{refused, sheet_refused, sheet_accepted, co
 use Rattle.join_answer.proofs.answer_join.Goals as goal
 
 pub write_own-requires : goal.write_own-requires
-write_own-requires c = accepted_conjuncts c.args.s.now _ _ c.in_ok-q.ensures refl
+write_own-requires c = accepted_conjuncts c.args.s.now _ _ c.in_ok-sections.ensures refl
 
-pub returns-in_err-q : goal.returns-in_err-q
+pub returns-in_err-sections : goal.returns-in_err-sections
 unfolding join_result
-returns-in_err-q c =
+returns-in_err-sections c =
     let s = c.args.s.now in
-    let e : c.from_residual.result ≡ Err c.in_err-q.field-0.0 = search rules in
-    let k = comes_as _ _ _ _ _ (sheet_refused s (λ (sheet : Sheet). bytes (join_bytes (join_selectivity_from_conjuncts sheet (conjuncts_in s)))) _ c.in_err-q.ensures _ refl) (refused _ c.args.out.now) in
+    let e : c.from_residual.result ≡ Err c.in_err-sections.field-0.0 = search rules in
+    let k = comes_as _ _ _ _ _ (sheet_refused s (λ (sheet : Sheet). bytes (join_bytes (join_selectivity_from_conjuncts sheet (conjuncts_in s)))) _ c.in_err-sections.ensures _ refl) (refused _ c.args.out.now) in
     record { value = ap answer_of e ∙ k.0; out_after = k.1 }
 
 pub returns : goal.returns
 unfolding join_result
 returns c =
     let s = c.args.s.now in
-    let q = c.in_ok-q.q in
+    let q = c.in_ok-sections.sections in
     let w = c.write_own.ensures in
     let k = comes_as _ _ _ _ _
-    (ap (λ (cs : List ℕ). bytes (join_bytes (join_selectivity_from_conjuncts (sheet_of s q) cs))) (own_conjuncts s _ q c.in_ok-q.ensures refl)
-    ∙ sheet_accepted s (λ (sheet : Sheet). bytes (join_bytes (join_selectivity_from_conjuncts sheet (conjuncts_in s)))) _ c.in_ok-q.ensures q refl)
+    (ap (λ (cs : List ℕ). bytes (join_bytes (join_selectivity_from_conjuncts (sheet_of s q) cs))) (own_conjuncts s _ q c.in_ok-sections.ensures refl)
+    ∙ sheet_accepted s (λ (sheet : Sheet). bytes (join_bytes (join_selectivity_from_conjuncts sheet (conjuncts_in s)))) _ c.in_ok-sections.ensures q refl)
     (w.value, w.out_after) in
     record { value = k.0; out_after = k.1 }

@@ -15,4 +15,4 @@ returns c =
     let a = c.args in
     let x2 = onto_part _ _ _ _ _ figures_match_offset _ refl refl (omega arith) c.put_estimate.ensures c.put_estimate-2.ensures in
     onto_part _ _ _ _ _ figures_residual_offset _ refl refl (omega arith) x2 c.put_f64.ensures
-    ∙ ap (λ (bs : List ℕ). onto bs a.out.now) (figures_joined a.selectivity a.match_probability a.residual_selectivity)
+    ∙ ap (λ (bs : List ℕ). onto bs a.out.now) (figures_joined a.figures.selectivity a.figures.match_probability a.figures.residual_selectivity)

@@ -7,7 +7,7 @@ use Rattle.join_sheet.proofs.put_reply.Goals as goal
 
 pub returns-in-Err : goal.returns-in-Err
 returns-in-Err c =
-    let e = c.put_refusal.ensures ∙ ap (λ (n : ℕ). onto (0xFF ∷ n ∷ []) c.join.new.out) c.number.ensures in
+    let e = c.put_refusal.ensures ∙ ap (λ (n : ℕ). onto (0xFF ∷ n ∷ []) c.join.new.out) c.from.ensures in
     let put = refused_reply (join_result _) _ _ _ _ (reply_fits _) c.requires c.in-Err.ensures e in
     record { value = put.0; out_after = put.1.0; prefix_len = put.1.1 }
 

@@ -11,4 +11,4 @@ abbrev pub decreases-operand_product : goal.decreases-operand_product
 decreases-operand_product l = 2 * l.limit
 
 abbrev pub invariant-operand_product-loop-i : goal.invariant-operand_product-loop-i
-invariant-operand_product-loop-i l = ProductRest l.s l.q l.op l.first l.count (estimates_below (sheet_of l.s l.q) l.limit) l.product l.i l.i-end
+invariant-operand_product-loop-i l = ProductRest l.sheet.bytes.now l.sheet.sections l.op l.fn.run.first l.fn.run.count (estimates_below (sheet_of l.sheet.bytes.now l.sheet.sections) l.limit) l.product l.i l.i-end

@@ -30,7 +30,7 @@ count z j e l = omega arith
 
 pub overflow_sub-result : goal.overflow_sub-result
 overflow_sub-result c =
-    let t = top c.args.d c.requires.0 c.requires.1 in at_least (count_leading_zeros 64 c.args.d) t.0 t.1.0 t.1.3
+    let t = top c.args.d c.requires.0 c.requires.1 in rw c.from.ensures (at_least (count_leading_zeros 64 c.args.d) t.0 t.1.0 t.1.3)
   where
     at_least : (z j : ℕ) → z + suc j ≡ 64 → j < 53 → 11 ≤ z
     at_least z j e l = omega arith
@@ -38,4 +38,4 @@ overflow_sub-result c =
 pub returns : goal.returns
 returns c =
     let t = top c.args.d c.requires.0 c.requires.1 in
-    subst (λ (s : ℕ). Shift c.args.d s) (sym (count (count_leading_zeros 64 c.args.d) t.0 t.1.0 t.1.3)) (shift c.args.d t.0 t.1.1 t.1.2 t.1.3)
+    rw c.from.ensures (subst (λ (s : ℕ). Shift c.args.d s) (sym (count (count_leading_zeros 64 c.args.d) t.0 t.1.0 t.1.3)) (shift c.args.d t.0 t.1.1 t.1.2 t.1.3))

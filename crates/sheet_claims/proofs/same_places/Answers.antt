@@ -1,15 +1,13 @@
-use mathlib.Core.Path.{sym, ◌∙◌}
-use native.Mathlib.Omega.{arith}
-use Rattle.sheet_claims.proofs.PlaceLaws.{places_next, places_differ, places_end}
+use Rattle.std.proofs.Common.{◌≡◌, ap, ◌∙◌, rules, tests}
+use Rattle.std.specs.List.{list_all, enumerate_from}
+use Rattle.std.proofs.lemmas.Iterator.{YieldsList-from_slice}
+use Rattle.std.proofs.lemmas.Iterator.Consumers.{YieldsList-from_enumerate}
+use Rattle.std.proofs.lemmas.Iterator.Search.{all_from_yields_List}
+use Rattle.sheet_claims.proofs.PlaceLaws.{same_place, places_from}
 use Rattle.sheet_claims.proofs.same_places.Goals as goal
 
-pub returns-then-places-i : goal.returns-then-places-i
-returns-then-places-i c =
-    places_differ c.args.places c.args.a.now c.args.at c.loop-i.i _ (omega arith) (λ e. c.if-places-i.true (e ∙ sym c.u16_at.ensures)) c.loop-i.invariant.1
-
-pub loop-i-preserved : goal.loop-i-preserved
-loop-i-preserved c =
-    (c.loop-i.invariant.0, places_next c.args.places c.args.a.now c.args.at c.loop-i.i _ (omega arith) (c.if-places-i.false ∙ c.u16_at.ensures) c.loop-i.invariant.1)
-
 pub returns : goal.returns
-returns c = places_end c.args.places c.args.a.now c.args.at c.loop-i.i _ (omega arith) c.loop-i.invariant.1
+returns c =
+    let all : c.all.result ≡ list_all (same_place c.args.expected.now) (enumerate_from 0 c.args.places) =
+    all_from_yields_List (same_place c.args.expected.now) _ _ c.all.result c.all.ensures.ran (YieldsList-from_enumerate (YieldsList-from_slice c.args.places (ap (λ s. s.rest.now) c.enumerate.ensures.source ∙ c.iter.ensures.rest)) c.enumerate.ensures.count) (λ x b q k. search (rules, tests)) in
+    all ∙ places_from c.args.expected.now c.args.places 0

@@ -13,4 +13,4 @@ abbrev pub invariant-put_operands-loop-i : goal.invariant-put_operands-loop-i
 invariant-put_operands-loop-i l =
     (length l.numbers ≡ length l.initial.numbers)
     × (l.at ≤ length l.numbers)
-    × Put l.s l.q l.first l.count l.limit l.initial.numbers l.numbers l.at l.i l.i-end
+    × Put l.sheet.bytes.now l.sheet.sections l.fn.run.first l.fn.run.count l.limit l.initial.numbers l.numbers l.at l.i l.i-end

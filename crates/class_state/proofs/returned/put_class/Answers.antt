@@ -11,5 +11,5 @@ pub returns-clause-out_after : goal.returns-clause-out_after
 unfolding field_bytes
 returns-clause-out_after c =
     let x2 = onto_part _ _ _ _ _ 2 _ refl refl (omega arith) c.put_u16.ensures c.put_estimate.ensures in
-    let x3 = onto_part _ _ _ _ _ 28 _ (head_length c.args.count _) refl (omega arith) x2 c.put_members.ensures.out_after in
-    x3 ∙ ap (λ (bs : List ℕ). onto bs c.args.out.now) (class_written c.args.roots.now c.args.root c.args.count c.requires.0 c.args.distinct)
+    let x3 = onto_part _ _ _ _ _ 28 _ (head_length c.from.result _) refl (omega arith) x2 c.put_members.ensures.out_after in
+    x3 ∙ ap (λ (bs : List ℕ). onto bs c.args.out.now) (class_written c.args.class.now.roots.now c.args.class.now.root c.from.result (c.from.ensures ∙ c.args.class.now.counted) c.args.distinct)

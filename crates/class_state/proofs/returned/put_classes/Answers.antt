@@ -11,7 +11,10 @@ use Rattle.class_state.proofs.ReturnedLaws.{returned_first, returned_within, ret
 use Rattle.class_state.proofs.returned.put_classes.Goals as goal
 
 pub loop-root-init : goal.loop-root-init
-loop-root-init c = (refl, omega arith, returned_first _ _)
+loop-root-init c = (refl, omega arith, returned_first _ _, counts_length c.args.state.now.roots c.args.counts.now c.requires.0)
+
+pub invariant_of-class : goal.invariant_of-class
+invariant_of-class c = record { counted = count_at c.args.state.now.roots c.args.counts.now c.loop-root.root c.requires.0 (omega arith) }
 
 pub put_returned-at-requires : goal.put_returned-at-requires
 put_returned-at-requires c =
@@ -19,10 +22,7 @@ put_returned-at-requires c =
     let state = c.args.state.now in
     let z = counts_size_law state.roots c.args.counts.now c.requires.0 in
     let room : classes_size state.roots ≤ length c.args.out.now = omega arith in
-    (count_at state.roots c.args.counts.now l.root c.requires.0 (omega arith), returned_part state c.args.out.now l.out l.at l.root l.invariant.2 room (omega arith))
-
-pub bounds-counts-root : goal.bounds-counts-root
-bounds-counts-root c = let n = counts_length c.args.state.now.roots c.args.counts.now c.requires.0 in omega arith
+    returned_part state c.args.out.now l.out l.at l.root l.invariant.2 room (omega arith)
 
 pub overflow_add-at : goal.overflow_add-at
 overflow_add-at c =
@@ -42,7 +42,7 @@ loop-root-preserved c =
     let p = c.put_returned-at.ensures in
     let next = returned_next state c.args.out.now l.out l.at l.root l.invariant.2 room (omega arith) _ _ _ _ (read_any state.distincts l.root _ no_distinct (omega arith)) p.value refl p.out_after in
     let k = returned_within state c.args.out.now _ _ _ next room in
-    (k.0, k.1, next)
+    (k.0, k.1, next, l.invariant.3)
 
 pub returns-then-at-size : goal.returns-then-at-size
 returns-then-at-size c =

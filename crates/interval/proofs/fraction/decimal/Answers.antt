@@ -1,13 +1,8 @@
 use Rattle.std.proofs.Common.{rules}
 use lib.IntN.{+ℤ_idr}
-use lib.Ieee.{of_bits}
 use Rattle.interval.specs.Fraction.{decimal}
 use Rattle.interval.proofs.WidthLaws.{unlike_ends}
 use Rattle.interval.proofs.fraction.decimal.Goals as goal
-
-pub returns-then-ends : goal.returns-then-ends
-unfolding decimal of_bits
-returns-then-ends c = search rules
 
 pub returns : goal.returns
 unfolding decimal

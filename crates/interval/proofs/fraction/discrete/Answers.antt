@@ -3,10 +3,6 @@ use lib.Ieee.{of_bits}
 use Rattle.interval.specs.Fraction.{discrete}
 use Rattle.interval.proofs.fraction.discrete.Goals as goal
 
-pub returns-then-width : goal.returns-then-width
-unfolding discrete of_bits
-returns-then-width c = search rules
-
 pub returns : goal.returns
 unfolding discrete of_bits
 returns c = search rules

@@ -13,4 +13,4 @@ returns-in-Expressions c = rw (c.expression_refusal.ensures, expressions_tally _
 
 pub returns-in-Operands : goal.returns-in-Operands
 unfolding record_refusal
-returns-in-Operands c = rw (c.operand_refusal.ensures, operands_next _ _ _ _ _ _ c.requires.1.0.1 c.requires.0.1 (owned c.in-Operands.is) _ _ c.requires.1.1, c.in-Operands.is) refl
+returns-in-Operands c = rw (c.operand_refusal.ensures, c.from.ensures, operands_next _ _ _ _ _ _ c.requires.1.0.1 c.args.walk.now.known (owned c.in-Operands.is) _ _ c.requires.1.1, c.in-Operands.is) refl

@@ -1,9 +1,0 @@
-use Rattle.std.proofs.Common.{ap, ◌∙◌, SFits, w32}
-use Rattle.scalar.specs.Order.{integer_order, is_equal}
-use Rattle.sketch.proofs.ValueLaws.{integer_test}
-use Rattle.sketch.proofs.values.is_i32.Goals as goal
-
-pub returns : goal.returns
-returns c =
-    let fits : SFits w32 c.i32_there.result = record { sfits = c.i32_there.type_inv } in
-    integer_test w32 c.i32_there.result c.args.x fits c.ranges.x ∙ ap (λ a. is_equal (integer_order a c.args.x)) c.i32_there.ensures
