@@ -11,6 +11,7 @@ ghost use Rattle.join_sheet.specs.Reply.{reply_bytes};
 use std::io;
 use std::io::Read;
 
+#[tactic(auto, unfolding(le::specs::Fields::onto))]
 fn put_refusal(out: &mut [u8], n: u8)
     requires { 2 ≤ length out.old }
     ensures { out.new ≡ onto (0xFF ∷ n ∷ []) out.old }

@@ -29,6 +29,7 @@ pub fn store_fits(s: &[u8], c: &[u8]) -> bool
 }
 
 // A command of another kind, and one that does not fit, stores nothing.
+#[tactic(auto, using(crate::proofs::StoreLaws::fits_room, crate::proofs::StoreLaws::is_of_kind), unfolding(crate::specs::Stores::stored))]
 pub fn store(kind: Kind, s: &mut [u8], c: &[u8])
     ensures { s.new ≡ stored kind s.old c.now }
 {
