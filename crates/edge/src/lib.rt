@@ -16,7 +16,7 @@ use inputs::{edge_inputs, right_rows_estimate};
 use interval::intersection::{DistinctIntersection, estimated_distinct_intersection};
 use keys::{profile_has_complete_base_population, single_column_foreign_key};
 use lookup::profiles::{left_rows, right_rows};
-use places::{EdgePlaces, PlacedEdge, placed_distinct};
+use places::{PlacedEdge, exchanged_places, placed_distinct};
 use records::columns::{BaseColumn, ColumnProfile, column_profile_at};
 use sheet::View;
 use sketch_join::{sketch_join_estimate, sketch_left_match_probability};
@@ -241,16 +241,10 @@ fn exchanged<'a>(placed: &PlacedEdge<'a>) -> PlacedEdge<'a>
     ensures edge { result.edge ≡ exchanged_edge placed.now.edge }
     ensures places { result.places ≡ exchanged_places placed.now.places }
 {
-    let places = placed.places;
     PlacedEdge {
         sheet: placed.sheet,
         edge: exchanged_edge(placed.edge),
-        places: EdgePlaces {
-            left_in_left: places.right_in_left,
-            left_in_right: places.right_in_right,
-            right_in_left: places.left_in_left,
-            right_in_right: places.left_in_right,
-        },
+        places: exchanged_places(placed.places),
     }
 }
 

@@ -1,7 +1,7 @@
 // Where the columns of a join stand in its two inputs, looked up once for all that is asked of them.
 ghost use Rattle.std.specs.Prelude.{◌≡◌};
 ghost use Rattle.lookup.specs.Lookup.{column_places};
-ghost use Rattle.edge.specs.Places.{edge_places, placed_distinct, placed_fraction};
+ghost use Rattle.edge.specs.Places.{edge_places, exchanged_places, placed_distinct, placed_fraction};
 
 use crate::EqualityEdge;
 use layout::COLUMN_LIMIT;
@@ -17,6 +17,38 @@ pub struct EdgePlaces {
     pub left_in_right: Option<u32>,
     pub right_in_left: Option<u32>,
     pub right_in_right: Option<u32>,
+}
+
+// By the places that were noted for the two lists.
+pub fn edge_places(
+    sheet: &View,
+    on_left: &[Option<u32>],
+    on_right: &[Option<u32>],
+    left: u16,
+    right: u16,
+) -> EdgePlaces
+    requires { (on_left.now ≡ column_places sheet.now.bytes.now sheet.now.sections.left_columns) × (on_right.now ≡ column_places sheet.now.bytes.now sheet.now.sections.right_columns) }
+    ensures { result ≡ edge_places sheet.now.bytes.now sheet.now.sections left right }
+{
+    let s = sheet.bytes;
+    let q = sheet.sections;
+    EdgePlaces {
+        left_in_left: place_of(s, q.left_columns, on_left, left),
+        left_in_right: place_of(s, q.right_columns, on_right, left),
+        right_in_left: place_of(s, q.left_columns, on_left, right),
+        right_in_right: place_of(s, q.right_columns, on_right, right),
+    }
+}
+
+pub fn exchanged_places(places: EdgePlaces) -> EdgePlaces
+    ensures { result ≡ exchanged_places places }
+{
+    EdgePlaces {
+        left_in_left: places.right_in_left,
+        left_in_right: places.right_in_right,
+        right_in_left: places.left_in_left,
+        right_in_right: places.left_in_right,
+    }
 }
 
 // An edge of a sheet's join, and where its columns stand.
@@ -53,18 +85,16 @@ impl<'a> InputPlaces<'a> {
         ensures same_sheet { result.sheet ≡ self.now.sheet }
         ensures same_edge { result.edge ≡ edge }
     {
-        let s = self.sheet.bytes;
-        let left = self.sheet.sections.left_columns;
-        let right = self.sheet.sections.right_columns;
         PlacedEdge {
             sheet: self.sheet,
             edge,
-            places: EdgePlaces {
-                left_in_left: place_of(s, left, &self.on_left, edge.left),
-                left_in_right: place_of(s, right, &self.on_right, edge.left),
-                right_in_left: place_of(s, left, &self.on_left, edge.right),
-                right_in_right: place_of(s, right, &self.on_right, edge.right),
-            },
+            places: edge_places(
+                &self.sheet,
+                &self.on_left,
+                &self.on_right,
+                edge.left,
+                edge.right,
+            ),
         }
     }
 }

@@ -4,6 +4,8 @@
 ghost use Rattle.std.specs.Prelude.{◌≡◌, ℕ, ◌+◌, ◌-◌, ◌≤◌, ◌<◌, ◌^◌, leb, length, slice_index};
 ghost use Rattle.le.specs.Fields.{byte_at, field_at, u16_at, u32_at, u64_at};
 
+use std::array;
+
 pub fn byte_at(s: &[u8], at: usize) -> u8
     ensures { result ≡ byte_at s.now at }
 {
@@ -41,14 +43,12 @@ fn bytes_at<const N: usize>(s: &[u8], at: usize) -> [u8; N]
     bytes
 }
 
-// The bytes, and zeros behind them.
+// The bytes, and zeros behind them. Byte by byte: a copy of a slice would be the C library's.
 fn padded(bytes: &[u8]) -> [u8; 8]
     requires { length bytes.now ≤ 8 }
     ensures { (i : ℕ) → slice_index result i ≡ byte_at bytes.now i }
 {
-    let mut word = [0; 8];
-    word[..bytes.len()].copy_from_slice(bytes);
-    word
+    array::from_fn(|i| byte_at(bytes, i))
 }
 
 // The number of n bytes that the end may cut. What is not there counts as 0.

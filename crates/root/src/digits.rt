@@ -32,17 +32,38 @@ pub struct Digits {
     pub rest: u64,
 }
 
-// The root of w * 4^27 by the library's whole root.
-fn exact_digits(w: u64) -> Digits
+// The whole root of w: a number that may be it, or the library's.
+fn whole_root(w: u64, near: u64) -> u64
+    requires { w < 2 ^ 54 }
+    ensures square_le { result * result ≤ w }
+    ensures next_square_gt { w < (result + 1) * (result + 1) }
+{
+    if near < PART && near * near <= w && w < (near + 1) * (near + 1) {
+        return near;
+    }
+    w.isqrt()
+}
+
+// The root of w * 4^27: the whole root of w, and MORE_DIGITS binary digits more. A loop, since each digit needs
+// what the one before it left; the library's root of the whole number takes nearly three times as long.
+fn exact_digits(w: u64, near: u64) -> Digits
     requires { w < 2 ^ 54 }
     ensures { RootDigits w result.digits result.rest }
 {
-    let n = u128::from(w) << (2 * MORE_DIGITS);
-    let digits = n.isqrt();
-    Digits {
-        digits: digits as u64,
-        rest: (n - digits * digits) as u64,
+    let mut digits = whole_root(w, near);
+    let mut rest = w - digits * digits;
+    'more: for _ in 0..MORE_DIGITS {
+        let step = 4 * digits + 1;
+        let left = 4 * rest;
+        if step <= left {
+            rest = left - step;
+            digits = 2 * digits + 1;
+        } else {
+            rest = left;
+            digits = 2 * digits;
+        }
     }
+    Digits { digits, rest }
 }
 
 // Near the root of w * 4^27 and a little below it, by the processor's arithmetic, where x is the
@@ -114,12 +135,13 @@ fn corrected(w: u64, g: u64) -> Option<Digits>
     (rest <= 2 * digits).then_some(Digits { digits, rest })
 }
 
-// All digits of the root of w * 4^27 and the remainder: a guess that is tested, and the library's root
-// where the test fails.
+// All digits of the root of w * 4^27 and the remainder: a guess that is tested, and digit by digit where the
+// test fails, from the guess's whole part.
 pub fn root_digits(w: u64) -> Digits
     requires { w < 2 ^ 54 }
     ensures root_digits { RootDigits w result.digits result.rest }
     ensures value { result ≡ all_digits w }
 {
-    corrected(w, guess(w)).unwrap_or_else(|| exact_digits(w))
+    let g = guess(w);
+    corrected(w, g).unwrap_or_else(|| exact_digits(w, g / PART))
 }
